@@ -27,6 +27,9 @@ void-is Void h = refl
 void-is (Int w) h = absurd (let bad : ⊥ = cc in bad)
 void-is Ptr h = absurd (let bad : ⊥ = cc in bad)
 
+pub small-words : (ty : Ty) (tys : List Ty) → are_words (ty ∷ tys) ≡ true → (ty ≡ Int 64) × (are_words tys ≡ true)
+small-words ty tys h = let parts = and_parts (is_word ty) (are_words tys) h in (word-is ty parts.0, parts.1)
+
 -- each type of a list of words is that of 64 bits
 pub words-at : (tys : List Ty) → are_words tys ≡ true → (i : ℕ) → i < length tys → slice_get tys i ≡ Some (Int 64)
 words-at [] h i below = absurd (let bad : ⊥ = omega arith in bad)
