@@ -1,5 +1,5 @@
 -- The quick code of a small module's function: its frame, its form, and that it is good.
-use Rattle.std.specs.Prelude.{◌≡◌, ℕ, zero, suc, ◌+◌, ◌*◌, ◌^◌, ◌<◌, ◌≤◌, Bool, true, false, ◌&&◌, nat_lt, List, [], ◌∷◌, ◌++◌, length, map, slice_get, Option, Some, None, refl}
+use Rattle.std.specs.Prelude.{◌≡◌, ℕ, zero, suc, ◌+◌, ◌*◌, ◌^◌, ◌<◌, ◌≤◌, Bool, true, List, [], ◌∷◌, ◌++◌, length, map, slice_get, Option, Some, None, refl}
 use Rattle.std.proofs.Common.{arith, ap, sym, subst, ◌∙◌, length-append, append_assoc, cond, get_or}
 use Rattle.std.proofs.lemmas.Bool.{and_parts, ltb-true}
 use Rattle.std.proofs.lemmas.List.{append-nil}
@@ -27,7 +27,7 @@ use Rattle.ir_meaning.specs.Meaning.{meaning, of_function}
 use Rattle.ir_meaning.proofs.SmallTyped.{small-typed}
 use Rattle.rv_core.specs.declared.instr.Instr.{Instr}
 use Rattle.rv_play.specs.Good.{Good}
-use Rattle.fast_isel.specs.Small.{IsPlain, IsSmallOperand, AreSmallArgs, IsSmallOp, AreSmall, AreWords, return_of, IsSmall}
+use Rattle.fast_isel.specs.Small.{IsPlain, IsSmallOperand, AreSmallArgs, IsSmallOp, AreSmall, AreWords, IsSmall}
 use Rattle.fast_isel.specs.Code.{op_code, insts_code, epilogue, answer_of, ends_or, block_code, prologue, params_code, function_code, quick_code}
 use Rattle.fast_isel.specs.Quick.{quick_words}
 use Rattle.fast_isel.proofs.Smalls.{small-call-is}
@@ -44,11 +44,11 @@ passes-at module_ (f ∷ fs) (suc symbol) function h e = passes-at module_ fs sy
 
 -- ---- the forms of a small function that the law on quick code takes
 
-words-are : (tys : List Ty) → are_words tys ≡ true → AreWords tys
+pub words-are : (tys : List Ty) → are_words tys ≡ true → AreWords tys
 words-are [] h = tt
 words-are (ty ∷ tys) h = let parts = small-words ty tys h in (parts.0, words-are tys parts.1)
 
-operand-is : (n k : ℕ) (a : Operand) → k ≤ n → is_small_operand k a ≡ true → IsSmallOperand n a
+pub operand-is : (n k : ℕ) (a : Operand) → k ≤ n → is_small_operand k a ≡ true → IsSmallOperand n a
 operand-is n k (Local number) le h = let lt = ltb-true number k h in let goal : number < n = omega (arith, lt) in goal
 operand-is n k (Num v) le h = ltb-true v (2 ^ 64) h
 operand-is n k Null le h = absurd (let bad : ⊥ = cc in bad)
@@ -99,7 +99,7 @@ op-is module_ n k (CondBr c a b) m le h = absurd (let bad : ⊥ = cc in bad)
 op-is module_ n k (Switch ty a otherwise cases) m le h = absurd (let bad : ⊥ = cc in bad)
 op-is module_ n k Unreachable m le h = absurd (let bad : ⊥ = cc in bad)
 
-body-is : (module_ : Module) (n k : ℕ) (body : List Inst) → IsSmallModule module_ → k + length body ≤ n → AreBefore module_ k body → AreSmall n body
+pub body-is : (module_ : Module) (n k : ℕ) (body : List Inst) → IsSmallModule module_ → k + length body ≤ n → AreBefore module_ k body → AreSmall n body
 body-is module_ n k [] m le h = tt
 body-is module_ n k (inst ∷ body) m le h =
     (h.0, (op-is module_ n k inst.op m (omega arith) h.1).0, body-is module_ n (k + 1) body m (omega arith) h.2)
@@ -136,13 +136,13 @@ module _ (module_ : Module) (m : IsSmallModule module_) (function : Function) (p
   abbrev r : Returning module_ (length function.params) f.block.insts
   r = returns-last module_ f.block.insts (length function.params) f.block.small
 
-  one : function.blocks ≡ record { insts = r.body ++ returning r.answer ∷ [] } ∷ []
+  pub one : function.blocks ≡ record { insts = r.body ++ returning r.answer ∷ [] } ∷ []
   one = f.block.one ∙ ap (λ (insts : List Inst). record { insts = insts } ∷ []) r.whole
 
-  short : length r.body ≤ 49
+  pub short : length r.body ≤ 49
   short = let whole = ap length r.whole in let append = length-append r.body (returning r.answer ∷ []) in let few = f.block.short in omega (arith, whole, append, few)
 
-  pub is-small : IsSmall function
+  abbrev pub is-small : IsSmall function
   is-small = record {
     body = r.body;
     answer = r.answer;
@@ -166,14 +166,14 @@ module _ (module_ : Module) (m : IsSmallModule module_) (function : Function) (p
   pub block-fits : (slice_get function.blocks 0 ≡ Some (record { insts = f.block.insts })) × (length function.params + length f.block.insts ≤ 58) × (length function.blocks ≡ 1)
   block-fits = let few = f.few in let s = f.block.short in (ap (λ (blocks : List Block). slice_get blocks 0) f.block.one, omega (arith, few, s), ap length f.block.one)
 
+  abbrev whole : ℕ
+  whole = 128 + 32 * (length function.params + length r.body)
+
   pub code-is : (symbol : ℕ) → quick_code symbol function ≡ function_code symbol (length function.params) r.body r.answer (128 + 32 * (length function.params + length r.body))
   code-is symbol =
       ap (λ (k : ℕ). prologue symbol k ++ (params_code 0 (length function.params) ++ block_code k (insts_at function 0) (length function.params))) frame-is
       ∙ ap (λ (more : List Instr). prologue symbol whole ++ (params_code 0 (length function.params) ++ more))
       (ap (λ (blocks : List Block). block_code whole (insts_of (slice_get blocks 0)) (length function.params)) one ∙ block-is module_ whole (length function.params) r.body r.answer m r.before)
-    where
-      abbrev whole : ℕ
-      whole = 128 + 32 * (length function.params + length r.body)
 
 -- ---- the words are good
 
@@ -192,10 +192,11 @@ pub words-at : (program : Program) (symbol : ℕ) (function : Function) → IsSm
     → (is_small_function program.module_ function ≡ true) × (map word_of (quick_code symbol function) ≡ quick_words program symbol) × Good (meaning program) symbol (map word_of (quick_code symbol function))
 words-at program symbol function small lt e =
     let there = slice_get_read program.module_.functions (length program.module_.functions) symbol function refl lt e in
-    let m = small-module program.module_ small.small in
-    (passes-at program.module_ program.module_.functions symbol function m.functions there,
-    ap (λ (o : Option Function). of_function [] (λ (f : Function). map word_of (quick_code symbol f)) o) (sym there),
-    quick-good program symbol function small there)
+    let m = small-module program.module_ small.small in (
+      passes-at program.module_ program.module_.functions symbol function m.functions there,
+      ap (λ (o : Option Function). of_function [] (λ (f : Function). map word_of (quick_code symbol f)) o) (sym there),
+      quick-good program symbol function small there,
+    )
 
-pub few-functions : (module_ : Module) → IsSmallModule module_ → length module_.functions ≤ 1000
-few-functions module_ h = (small-module module_ h).few
+pub few-functions : (program : Program) → IsSmallProgram program → length program.module_.functions ≤ 1000
+few-functions program small = (small-module program.module_ small.small).few

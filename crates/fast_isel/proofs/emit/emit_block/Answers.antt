@@ -1,9 +1,9 @@
-use Rattle.std.proofs.Common.{◌++◌, map, true, ap, sym, ◌∙◌, arith}
+use Rattle.std.proofs.Common.{◌++◌, map, ap, sym, ◌∙◌, arith}
 use Rattle.rv_encode.specs.Spelling.{word_of}
 use Rattle.ir_core.specs.declared.code.Inst.{Inst}
 use Rattle.ir_core.specs.Small.{is_small_op}
 use Rattle.fast_isel.specs.Code.{op_code, answer_of}
-use Rattle.fast_isel.proofs.Loops.{insts-small, block-more, block-ends}
+use Rattle.fast_isel.proofs.Loops.{insts-small, block-more}
 use Rattle.fast_isel.proofs.emit.emit_block.Goals as goal
 
 pub emit_op-requires-clause-small : goal.emit_op-requires-clause-small

@@ -1,5 +1,5 @@
-use Rattle.std.proofs.Common.{◌++◌, map, ap, sym, ◌∙◌, arith}
-use Rattle.fast_isel.proofs.Quicks.{frame-fits, block-fits}
+use Rattle.std.proofs.Common.{arith}
+use Rattle.fast_isel.proofs.Quicks.{frame-fits}
 use Rattle.fast_isel.proofs.quick.function_words.Goals as goal
 
 pub emit_prologue-requires-clause-small : goal.emit_prologue-requires-clause-small
