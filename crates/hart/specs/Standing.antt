@@ -1,0 +1,100 @@
+-- What a hart's fields mean: the machine that it is, how its call goes on from there, and the two lists that it stands for since
+-- its start.
+use Rattle.std.specs.Prelude.{◌≡◌, ◌≢◌, ℕ, ◌+◌, ◌-◌, ◌*◌, ◌<◌, ◌≤◌, ◌==◌, if◌then◌else◌, List, [], ◌∷◌, ◌++◌, length, drop, replicate, slice_get, Option, Some, None}
+use Rattle.rv_core.specs.declared.reg.Reg.{Reg}
+use Rattle.rv_core.specs.declared.step.Stepped.{Stepped}
+use Rattle.rv_core.specs.Step.{view, write, at_pc}
+use Rattle.ir_meaning.specs.declared.calls.Ended.{Ended}
+use Rattle.ir_meaning.specs.declared.calls.Ended.TheVariants as ended
+use Rattle.ir_meaning.specs.Plays.{Meaning}
+use Rattle.rv_play.specs.Machine.{Machine, Act, serve, data_base, control_base}
+use Rattle.rv_play.specs.Machine as act
+use Rattle.rv_play.specs.Ending.{Item, Held, Saw, Run, Next, Goes, Ends, Misfit, cell_load, seen, goes_to, run, start, ending}
+use Rattle.hart.specs.declared.hart.Hart.{Hart}
+use Rattle.hart.specs.declared.hart.Wanted.{Wanted}
+use Rattle.hart.specs.declared.hart.Wanted.TheVariants as wanted
+use Rattle.hart.specs.declared.hart.Phase.{Phase}
+use Rattle.hart.specs.declared.hart.Phase.TheVariants as phase
+use Rattle.hart.specs.declared.hart.Did.{Did}
+use Rattle.hart.specs.declared.hart.Did.TheVariants as did
+use Rattle.hart.specs.Places.{bytes_from}
+
+-- the hart knows the meaning's functions, their results and the size of data memory
+pub record IsFor (m : Meaning) (h : Hart) : Type 0 where
+  pub functions : m.functions ≡ h.functions
+  pub room : m.room ≡ length h.bytes.items
+  pub results : (symbol : ℕ) → symbol < m.functions → slice_get h.widths.items symbol ≡ Some (m.result symbol)
+
+abbrev pub machine_of : Hart → Machine
+machine_of h = record {
+  regs = view h.regs;
+  bytes = bytes_from data_base h.bytes.items;
+  control = bytes_from control_base h.control.items;
+}
+
+abbrev pub run_of : Hart → List ℕ → List Item → Run
+run_of h counted pass = record { machine = machine_of h; pass = pass; counted = counted }
+
+-- the register gets the base that the pass holds of the symbol's cell, if that is what comes next
+abbrev pub cell_given : Hart → List ℕ → Reg → ℕ → List Item → Next
+cell_given h counted rd symbol (Held symbol' base ∷ pass) =
+    if symbol == symbol'
+    then Goes (record { machine = record (machine_of h) { regs = write (view h.regs) rd base }; pass = pass; counted = counted })
+    else Misfit
+cell_given h counted rd symbol _ = Misfit
+
+-- what an instruction has led to
+abbrev pub next_of : Hart → List ℕ → List Item → Did → Next
+next_of h counted pass did.On = Goes (run_of h counted pass)
+next_of h counted pass (did.Cell rd symbol) = cell_given h counted rd symbol pass
+next_of h counted pass (did.Count symbol) = Goes (run_of h (counted ++ symbol ∷ []) pass)
+next_of h counted pass did.Overflow = Ends ended.Stack (run_of h counted pass)
+next_of h counted pass did.Fault = Ends (ended.Fault h.regs.pc) (run_of h counted pass)
+
+-- how what an instruction asks was served
+abbrev pub Serves : Meaning → Machine → Stepped → Machine → Did → Type 0
+Serves m s q s' did.On = (cell_load m q ≡ None) × (serve m s q ≡ act.On s')
+Serves m s q s' (did.Cell rd symbol) = (cell_load m q ≡ Some (rd, symbol)) × (s' ≡ s)
+Serves m s q s' (did.Count symbol) = (cell_load m q ≡ None) × (serve m s q ≡ act.Counts symbol s')
+Serves m s q s' did.Overflow = (cell_load m q ≡ None) × (serve m s q ≡ act.Overflow s')
+Serves m s q s' did.Fault = (cell_load m q ≡ None) × (serve m s q ≡ act.Fails) × (s' ≡ s)
+
+-- the call's run from a state on, by the hart's own numbers
+abbrev pub goes_on : Meaning → Hart → Run → Option (Ended × Run)
+goes_on m h r = run m h.code_words h.width h.fuel h.left r
+
+-- how the call goes on over the rest of its pass, from where the hart stands
+abbrev pub rest_of : Meaning → Hart → Phase → List ℕ → List Item → Option (Ended × Run)
+rest_of m h phase.Idle counted pass = None
+rest_of m h phase.Start counted pass = goes_on m h (run_of h counted pass)
+rest_of m h phase.Fetch counted pass = goes_to (goes_on m h) (seen m (run_of h counted pass) pass)
+rest_of m h (phase.Cell rd symbol) counted pass = goes_to (goes_on m h) (cell_given h counted rd symbol pass)
+rest_of m h (phase.Count symbol) counted pass = goes_on m h (run_of h counted pass)
+rest_of m h (phase.End e) counted pass = Some (e, run_of h counted pass)
+rest_of m h (phase.Done e) counted pass = Some (e, run_of h counted pass)
+
+-- what the hart wants where it stands
+abbrev pub wanted_by : Hart → Phase → Wanted → Type 0
+wanted_by h phase.Idle w = ⊥
+wanted_by h phase.Start w = w ≡ wanted.Begin
+wanted_by h phase.Fetch w = w ≡ wanted.Fetch h.regs.pc
+wanted_by h (phase.Cell rd symbol) w = w ≡ wanted.Cell symbol
+wanted_by h (phase.Count symbol) w = w ≡ wanted.Count symbol
+wanted_by h (phase.End e) w = w ≡ wanted.End
+wanted_by h (phase.Done e) w = w ≡ wanted.Done e
+
+-- all but the machine is as before, and data memory as long
+pub record IsSameCall (h h' : Hart) : Type 0 where
+  pub room : length h'.bytes.items ≡ length h.bytes.items
+  pub widths : h'.widths ≡ h.widths
+  pub functions : h'.functions ≡ h.functions
+  pub code_words : h'.code_words ≡ h.code_words
+  pub width : h'.width ≡ h.width
+  pub fuel : h'.fuel ≡ h.fuel
+  pub left : h'.left ≡ h.left
+
+-- only symbols of the module are read and counted
+abbrev pub IsAllowed : Hart → Did → Type 0
+IsAllowed h (did.Cell rd symbol) = symbol < h.functions
+IsAllowed h (did.Count symbol) = symbol < h.functions
+IsAllowed h _ = Unit {0}
