@@ -36,17 +36,15 @@ abbrev pub run_of : Hart → List ℕ → List Item → Run
 run_of h counted pass = record { machine = machine_of h; pass = pass; counted = counted }
 
 -- the register gets the base that the pass holds of the symbol's cell, if that is what comes next
-abbrev pub cell_given : Hart → List ℕ → Reg → ℕ → List Item → Next
-cell_given h counted rd symbol (Held symbol' base ∷ pass) =
-    if symbol == symbol'
-    then Goes (record { machine = record (machine_of h) { regs = write (view h.regs) rd base }; pass = pass; counted = counted })
-    else Misfit
-cell_given h counted rd symbol _ = Misfit
+abbrev pub cell_given : Machine → List ℕ → Reg → ℕ → List Item → Next
+cell_given s counted rd symbol (Held symbol' base ∷ pass) =
+    if symbol == symbol' then Goes (record { machine = record s { regs = write s.regs rd base }; pass = pass; counted = counted }) else Misfit
+cell_given s counted rd symbol _ = Misfit
 
 -- what an instruction has led to
 abbrev pub next_of : Hart → List ℕ → List Item → Did → Next
 next_of h counted pass did.On = Goes (run_of h counted pass)
-next_of h counted pass (did.Cell rd symbol) = cell_given h counted rd symbol pass
+next_of h counted pass (did.Cell rd symbol) = cell_given (machine_of h) counted rd symbol pass
 next_of h counted pass (did.Count symbol) = Goes (run_of h (counted ++ symbol ∷ []) pass)
 next_of h counted pass did.Overflow = Ends ended.Stack (run_of h counted pass)
 next_of h counted pass did.Fault = Ends (ended.Fault h.regs.pc) (run_of h counted pass)
@@ -68,7 +66,7 @@ abbrev pub rest_of : Meaning → Hart → Phase → List ℕ → List Item → O
 rest_of m h phase.Idle counted pass = None
 rest_of m h phase.Start counted pass = goes_on m h (run_of h counted pass)
 rest_of m h phase.Fetch counted pass = goes_to (goes_on m h) (seen m (run_of h counted pass) pass)
-rest_of m h (phase.Cell rd symbol) counted pass = goes_to (goes_on m h) (cell_given h counted rd symbol pass)
+rest_of m h (phase.Cell rd symbol) counted pass = goes_to (goes_on m h) (cell_given (machine_of h) counted rd symbol pass)
 rest_of m h (phase.Count symbol) counted pass = goes_on m h (run_of h counted pass)
 rest_of m h (phase.End e) counted pass = Some (e, run_of h counted pass)
 rest_of m h (phase.Done e) counted pass = Some (e, run_of h counted pass)

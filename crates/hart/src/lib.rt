@@ -5,5 +5,6 @@ mod bytes;
 mod execute;
 mod hart;
 mod map;
+mod words;
 
 pub use hart::{Given, Hart, Image, Wanted};
