@@ -20,6 +20,7 @@ impl Hart {
         requires { IsValid instr }
         ensures does { (m : Meaning) → IsFor m self.old → (counted : List ℕ) (pass : List Item) → do_instr m (run_of self.old counted pass) instr ≡ next_of self.new counted pass result }
         ensures keeps { IsSameCall self.old self.new }
+        ensures left { self.new.left ≡ self.old.left }
         ensures allowed { IsAllowed self.old result }
     {
         let pc = self.regs.pc;
@@ -35,6 +36,7 @@ impl Hart {
     fn serve(&mut self, asked: Stepped) -> Did
         ensures does { (m : Meaning) → IsFor m self.old → Serves m (machine_of self.old) asked (machine_of self.new) result }
         ensures keeps { IsSameCall self.old self.new }
+        ensures left { self.new.left ≡ self.old.left }
         ensures allowed { IsAllowed self.old result }
     {
         match asked {
@@ -49,6 +51,7 @@ impl Hart {
     fn load(&mut self, op: LoadOp, rd: Reg, address: u64) -> Did
         ensures does { (m : Meaning) → IsFor m self.old → Serves m (machine_of self.old) (Stepped.Load op rd address) (machine_of self.new) result }
         ensures keeps { IsSameCall self.old self.new }
+        ensures left { self.new.left ≡ self.old.left }
         ensures allowed { IsAllowed self.old result }
     {
         match cell_of(op, self.functions, address) {
@@ -72,6 +75,7 @@ impl Hart {
     fn store(&mut self, op: StoreOp, value: u64, address: u64) -> Did
         ensures does { (m : Meaning) → IsFor m self.old → Serves m (machine_of self.old) (Stepped.Store op value address) (machine_of self.new) result }
         ensures keeps { IsSameCall self.old self.new }
+        ensures left { self.new.left ≡ self.old.left }
         ensures allowed { IsAllowed self.old result }
     {
         match find(self.bytes.len(), self.control.len(), address, size_of_store(op)) {
@@ -91,6 +95,7 @@ impl Hart {
     fn call(&mut self) -> Did
         ensures does { (m : Meaning) → IsFor m self.old → Serves m (machine_of self.old) Stepped.Call (machine_of self.new) result }
         ensures keeps { IsSameCall self.old self.new }
+        ensures left { self.new.left ≡ self.old.left }
         ensures allowed { IsAllowed self.old result }
     {
         let symbol = self.regs.read(Reg::T1);

@@ -5,6 +5,7 @@ mod bytes;
 mod execute;
 mod hart;
 mod map;
+mod turn;
 mod words;
 
 pub use hart::{Given, Hart, Image, Wanted};

@@ -24,6 +24,17 @@ pub enum Found {
     Nowhere,
 }
 
+/// Where an instruction stands, or why none is run any more: at the exit, for want of fuel, or because none stands there.
+#[derive(Clone, Copy, Debug, PartialEq, Eq)]
+pub enum At {
+    Exit,
+    Spent,
+    /// A symbol's stub, and which of its instructions.
+    Stub(u32, u64),
+    Code,
+    Nowhere,
+}
+
 /// Where so many bytes from an address on stand wholly, in a data memory and a control stack of these lengths.
 pub fn find(bytes: usize, control: usize, address: u64, size: u64) -> Found
     requires bytes { bytes ≤ 67108864 }

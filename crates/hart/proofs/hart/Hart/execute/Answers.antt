@@ -18,7 +18,7 @@ returns-in_default c = record {
     code_words = c.serve-did.ensures.keeps.code_words;
     width = c.serve-did.ensures.keeps.width;
     fuel = c.serve-did.ensures.keeps.fuel;
-    left = c.serve-did.ensures.keeps.left;
   };
+  left = c.serve-did.ensures.left;
   allowed = c.serve-did.ensures.allowed;
 }
