@@ -13,6 +13,8 @@ use Rattle.rv_play.specs.Ending.{Item, Held, Saw, Run, Next, Goes, Ends, Misfit,
 use Rattle.hart.specs.declared.hart.Hart.{Hart}
 use Rattle.hart.specs.declared.hart.Wanted.{Wanted}
 use Rattle.hart.specs.declared.hart.Wanted.TheVariants as wanted
+use Rattle.hart.specs.declared.hart.Given.{Given}
+use Rattle.hart.specs.declared.hart.Given.TheVariants as given
 use Rattle.hart.specs.declared.hart.Phase.{Phase}
 use Rattle.hart.specs.declared.hart.Phase.TheVariants as phase
 use Rattle.hart.specs.declared.hart.Did.{Did}
@@ -157,5 +159,35 @@ pub record Turns (h h' : Hart) (items : List Item) (w : Wanted) : Type 0 where
       rest_of m h h.phase counted (items ++ pass) ≡ rest_of m h' h'.phase (with_counted h'.phase counted) pass
   pub wanted : wanted_by h' h'.phase w
   pub asked : IsAsked h' w
+  pub same : IsSameCall h h'
+  pub fewer : turns_left h' h'.phase < turns_left h h.phase
+
+-- what is given is what was wanted last
+abbrev pub IsGiven : Phase → Given → Type 0
+IsGiven phase.Idle g = ⊥
+IsGiven phase.Start g = g ≡ given.Nothing
+IsGiven phase.Fetch g = (word : ℕ) × (g ≡ given.Word word)
+IsGiven (phase.Cell rd symbol) g = (base : ℕ) × (g ≡ given.Cell base)
+IsGiven (phase.Count symbol) g = g ≡ given.Nothing
+IsGiven (phase.End e) g = g ≡ given.Nothing
+IsGiven (phase.Done e) g = ⊥
+
+-- what the pass has more by what is given
+abbrev pub item_of : Hart → Phase → Given → List Item
+item_of h phase.Fetch (given.Word word) = Saw h.regs.pc word ∷ []
+item_of h (phase.Cell rd symbol) (given.Cell base) = Held symbol base ∷ []
+item_of h _ _ = []
+
+-- what is wanted next: the last is the end of the call
+abbrev pub IsNext : Phase → Hart → Wanted → Type 0
+IsNext (phase.End e) h w = w ≡ wanted.Done e
+IsNext _ h w = IsAsked h w
+
+-- what was given has led to what is wanted next
+pub record Turned (h h' : Hart) (g : Given) (w : Wanted) : Type 0 where
+  pub goes : (m : Meaning) → IsFor m h → (counted : List ℕ) (pass : List Item) →
+      rest_of m h h.phase counted (item_of h h.phase g ++ pass) ≡ rest_of m h' h'.phase (with_counted h'.phase counted) pass
+  pub wanted : wanted_by h' h'.phase w
+  pub next : IsNext h.phase h' w
   pub same : IsSameCall h h'
   pub fewer : turns_left h' h'.phase < turns_left h h.phase

@@ -4,11 +4,12 @@ ghost use Rattle.std.specs.Prelude.{◌≡◌, ◌≤◌, length};
 use ir_meaning::calls::Ended;
 use rv_core::reg::Reg;
 use rv_core::step::Regs;
+use sqlite_items::Items;
 
 /// The first bytes of data memory, from its start on, and the address behind the last of them and the zeros that follow.
 #[derive(Debug, Drop)]
 pub struct Image {
-    pub bytes: Vec<u8>,
+    pub bytes: Items<u8>,
     pub top: u64,
 }
 

@@ -5,15 +5,49 @@ ghost use Rattle.rv_core.specs.Step.{view, read};
 ghost use Rattle.rv_core.specs.declared.reg.Reg.TheVariants.{A0};
 ghost use Rattle.rv_play.specs.Ending.{Item, Saw, Held, answer, goes_to};
 ghost use Rattle.hart.specs.declared.hart.Did.{Did};
-ghost use Rattle.hart.specs.Standing.{IsFor, IsSameCall, IsAllowed, IsAsked, Continues, Waits, Turns, machine_of, run_of, next_of, goes_on, rest_of, wanted_by, with_counted, at_of, turns_left};
+ghost use Rattle.hart.specs.Standing.{IsFor, IsSameCall, IsAllowed, IsAsked, Continues, Waits, Turns, machine_of, run_of, next_of, goes_on, rest_of, wanted_by, with_counted, at_of, turns_left, IsGiven, IsNext, Turned, item_of};
+ghost use Rattle.hart.specs.Calls.{Origin, Stands};
 
-use crate::hart::{Did, Hart, Phase, Wanted};
+use crate::hart::{Did, Given, Hart, Phase, Wanted};
 use crate::map::{At, CODE, EXIT, STUBS, stub_word};
 use crate::words::instr_at;
 use ir_meaning::calls::Ended;
 use rv_core::reg::Reg;
 
 impl Hart {
+    /// Goes on with what was wanted last, up to where the call wants something again.
+    #[inline]
+    pub fn turn(&mut self, given: Given) -> Wanted
+        requires { IsGiven self.old.phase given }
+        ensures stands { (m : Meaning) (o : Origin) (pass : List Item) (counted : List ℕ) → Stands m o self.old pass counted → Stands m o self.new (pass ++ item_of self.old self.old.phase given) (with_counted self.new.phase counted) }
+        ensures wanted { wanted_by self.new self.new.phase result }
+        ensures next { IsNext self.old.phase self.new result }
+        ensures same { IsSameCall self.old self.new }
+        ensures fewer { turns_left self.new self.new.phase < turns_left self.old self.old.phase }
+    {
+        self.advance(given)
+    }
+
+    fn advance(&mut self, given: Given) -> Wanted
+        requires { IsGiven self.old.phase given }
+        ensures { Turned self.old self.new given result }
+    {
+        match given {
+            Given::Word(word) => self.take_word(word),
+            Given::Cell(base) => match self.phase {
+                Phase::Cell(rd, symbol) => self.take_base(rd, symbol, base),
+                _ => unreachable!(),
+            },
+            Given::Nothing => match self.phase {
+                Phase::End(ended) => {
+                    self.phase = Phase::Done(ended);
+                    Wanted::Done(ended)
+                }
+                _ => self.go_on(),
+            },
+        }
+    }
+
     // Where the instruction at the program counter stands.
     fn standing(&self) -> At
         ensures at { result ≡ at_of self.now }
