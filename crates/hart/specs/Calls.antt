@@ -39,9 +39,13 @@ pub record HasRoomFor (room : ℕ) (image : Image) : Type 0 where
   pub low : data_base + length image.bytes ≤ image.top
   pub high : image.top ≤ data_base + room
 
+-- bytes written at the beginning of a list, and 0 behind them up to a length
+abbrev pub with_bytes : List ℕ → ℕ → List ℕ → List ℕ
+with_bytes image end bytes = image ++ (replicate (end - length image) 0 ++ drop end bytes)
+
 -- data memory with the image written: its bytes, then 0 up to its top; what stands above is left
 abbrev pub with_image : Image → List ℕ → List ℕ
-with_image image bytes = image.bytes ++ (replicate (image.top - data_base - length image.bytes) 0 ++ drop (image.top - data_base) bytes)
+with_image image bytes = with_bytes image.bytes (image.top - data_base) bytes
 
 -- a call that a hart can be given: its symbol exists, its arguments fit registers, and its turns are at most 2 ^ 32
 pub record IsCall (functions : ℕ) (call : ListedCall) : Type 0 where
@@ -61,8 +65,13 @@ origin_of h image call code_words = record {
   control = bytes_from control_base h.control.items;
 }
 
+-- so many numbers, each 0
+pub record AreZeros (count : ℕ) (items : List ℕ) : Type 0 where
+  pub long : length items ≡ count
+  pub zero : (i : ℕ) → slice_index items i ≡ 0
+
 -- a hart that has run nothing: all its memory is 0, and it knows no function
 pub record IsNew (room : ℕ) (h : Hart) : Type 0 where
-  pub bytes : h.bytes.items ≡ replicate room 0
-  pub control : h.control.items ≡ replicate 8388608 0
+  pub bytes : AreZeros room h.bytes.items
+  pub control : AreZeros 8388608 h.control.items
   pub functions : h.functions ≡ 0

@@ -5,6 +5,7 @@ mod bytes;
 mod execute;
 mod hart;
 mod map;
+mod start;
 mod turn;
 mod words;
 
