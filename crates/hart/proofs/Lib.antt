@@ -3,3 +3,4 @@ pub mod Serving
 pub mod Doing
 pub mod Decoding
 pub mod Turning
+pub mod Knowing

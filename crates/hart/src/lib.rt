@@ -3,10 +3,14 @@
 
 mod bytes;
 mod execute;
+mod fabric;
 mod hart;
 mod map;
+mod run;
 mod start;
 mod turn;
+mod widths;
 mod words;
 
+pub use fabric::Fabric;
 pub use hart::{Given, Hart, Image, Wanted};
