@@ -4,3 +4,4 @@ pub mod Doing
 pub mod Decoding
 pub mod Turning
 pub mod Knowing
+pub mod Asking

@@ -11,6 +11,8 @@ use Rattle.hart.specs.declared.hart.Wanted.{Wanted}
 use Rattle.hart.specs.declared.hart.Wanted.TheVariants as wanted
 use Rattle.hart.specs.declared.hart.Given.{Given}
 use Rattle.hart.specs.declared.hart.Given.TheVariants as given
+use Rattle.hart.specs.declared.hart.Phase.{Phase}
+use Rattle.hart.specs.declared.hart.Phase.TheVariants as phase
 use Rattle.hart.specs.Places.{bytes_from}
 use Rattle.hart.specs.Standing.{IsFor, IsCodeAddress, run_of, rest_of, with_counted}
 
@@ -48,16 +50,16 @@ pub record Both {S : Type 0} (stands : S → S → List Item → List ℕ → Ty
 
 -- what a fabric that was asked has given, and what it stands for then
 abbrev pub Asked : {S : Type 0} → (S → S → List Item → List ℕ → Type 0) → S → S → Wanted → Given → Type 0
-Asked stands f f' (wanted.Cell symbol) g =
+Asked {S = S} stands f f' (wanted.Cell symbol) g =
     (base : ℕ) × (g ≡ given.Cell base)
     × ((since : S) (pass : List Item) (counted : List ℕ) → stands since f pass counted → stands since f' (pass ++ Held symbol base ∷ []) counted)
-Asked stands f f' (wanted.Fetch a) g =
+Asked {S = S} stands f f' (wanted.Fetch a) g =
     (word : ℕ) × (g ≡ given.Word word)
     × ((since : S) (pass : List Item) (counted : List ℕ) → stands since f pass counted → stands since f' (pass ++ Saw a word ∷ []) counted)
-Asked stands f f' (wanted.Count symbol) g =
+Asked {S = S} stands f f' (wanted.Count symbol) g =
     (g ≡ given.Nothing)
     × ((since : S) (pass : List Item) (counted : List ℕ) → stands since f pass counted → stands since f' pass (counted ++ symbol ∷ []))
-Asked stands f f' _ g = ⊥
+Asked {S = S} stands f f' _ g = ⊥
 
 -- a wish that a fabric is asked
 abbrev pub IsQuestion : ℕ → ℕ → Wanted → Type 0
@@ -65,6 +67,15 @@ IsQuestion symbols code_words (wanted.Cell symbol) = symbol < symbols
 IsQuestion symbols code_words (wanted.Fetch a) = IsCodeAddress code_words a
 IsQuestion symbols code_words (wanted.Count symbol) = symbol < symbols
 IsQuestion symbols code_words _ = ⊥
+
+abbrev pub HasEnded : Phase → Type 0
+HasEnded p = (e : Ended) × (p ≡ phase.End e)
+
+-- the same functions and results, and data memory as long
+pub record Knows (h h' : Hart) : Type 0 where
+  pub functions : h'.functions ≡ h.functions
+  pub widths : h'.widths ≡ h.widths
+  pub room : length h'.bytes.items ≡ length h.bytes.items
 
 -- The call ended over what the fabric stands for since the state that the call found.
 pub record Answers {S : Type 0} (stands : S → S → List Item → List ℕ → Type 0) (since fabric : S) (known : Hart) (o : Origin) (e : Ended) (h : Hart) : Type 0 where

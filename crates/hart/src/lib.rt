@@ -4,6 +4,7 @@
 mod bytes;
 mod execute;
 mod fabric;
+mod fixed;
 mod hart;
 mod map;
 mod run;
@@ -13,4 +14,5 @@ mod widths;
 mod words;
 
 pub use fabric::Fabric;
+pub use fixed::FixedFabric;
 pub use hart::{Given, Hart, Image, Wanted};
