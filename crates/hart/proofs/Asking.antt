@@ -119,7 +119,7 @@ both_after stands since f f' known o h h' (phase.Count symbol) w g b a t pass co
       fabric_stands = u.1 since pass counted s;
       hart_stands = λ m for_it.
           subst (λ (xs : List Item). Stands m o h' xs (with_counted h'.phase (counted ++ symbol ∷ []))) (append-nil pass)
-            (t m o pass (counted ++ symbol ∷ []) (k m for_it));
+          (t m o pass (counted ++ symbol ∷ []) (k m for_it));
     }
 both_after stands since f f' known o h h' (phase.End e) w g b a t pass counted s k = absurd (subst (λ (v : Wanted). Asked stands f f' v g) b a)
 both_after stands since f f' known o h h' (phase.Done e) w g b a t pass counted s k = absurd (subst (λ (v : Wanted). Asked stands f f' v g) b a)
@@ -136,7 +136,7 @@ both_begun stands since f known o h h' p e t pass counted s k = record {
   hart_stands = λ m for_it.
       let at_begin : Stands m o h pass counted = subst (λ (q : Phase). Stands m o h pass (with_counted q counted)) e (k m for_it) in
       let turned : Stands m o h' (pass ++ []) (with_counted h'.phase counted) =
-          subst (λ (q : Phase). Stands m o h' (pass ++ item_of h q given.Nothing) (with_counted h'.phase counted)) e (t m o pass counted at_begin) in
+      subst (λ (q : Phase). Stands m o h' (pass ++ item_of h q given.Nothing) (with_counted h'.phase counted)) e (t m o pass counted at_begin) in
       subst (λ (xs : List Item). Stands m o h' xs (with_counted h'.phase counted)) (append-nil pass) turned;
 }
 
@@ -152,9 +152,9 @@ answered stands since f f' known o h h' e e' p p' same t s b = record {
   ended = λ m for_it.
       let before : Stands m o h b.pass b.counted = subst (λ (q : Phase). Stands m o h b.pass (with_counted q b.counted)) p (b.hart_stands m for_it) in
       let after : Stands m o h' (b.pass ++ []) b.counted =
-          subst (λ (q : Phase). Stands m o h' (b.pass ++ []) (with_counted q b.counted)) p'
-            (subst (λ (q : Phase). Stands m o h' (b.pass ++ item_of h q given.Nothing) (with_counted h'.phase b.counted)) p (t m o b.pass b.counted before)) in
+      subst (λ (q : Phase). Stands m o h' (b.pass ++ []) (with_counted q b.counted)) p'
+      (subst (λ (q : Phase). Stands m o h' (b.pass ++ item_of h q given.Nothing) (with_counted h'.phase b.counted)) p (t m o b.pass b.counted before)) in
       let over : ending_from m o (b.pass ++ []) ≡ Some (e', run_of h' b.counted []) =
-          ap (ending_from m o) (sym (append-nil (b.pass ++ []))) ∙ after.goes [] ∙ ap (λ (q : Phase). rest_of m h' q b.counted []) p' in
+      ap (ending_from m o) (sym (append-nil (b.pass ++ []))) ∙ after.goes [] ∙ ap (λ (q : Phase). rest_of m h' q b.counted []) p' in
       ap (ending_from m o) (sym (append-nil b.pass)) ∙ over;
 }

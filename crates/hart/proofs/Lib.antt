@@ -5,3 +5,4 @@ pub mod Decoding
 pub mod Turning
 pub mod Knowing
 pub mod Asking
+pub mod Laid

@@ -33,6 +33,12 @@ Serves cells code (Held symbol base ∷ pass) = (slice_get cells symbol ≡ Some
 Serves cells code (Saw address word ∷ pass) =
     (code_base ≤ address) × (slice_get code ((address - code_base) / 4) ≡ Some word) × Serves cells code pass
 
+-- the same cells and code words as before serve the pass
+pub record IsServed (old_cells old_code new_cells new_code : List ℕ) (pass : List Item) : Type 0 where
+  pub cells : new_cells ≡ old_cells
+  pub code : new_code ≡ old_code
+  pub serves : Serves new_cells new_code pass
+
 -- each version is good for its symbol
 abbrev pub AllGood : Meaning → List Version → Type 0
 AllGood m [] = Unit {0}

@@ -92,7 +92,6 @@ wanted_by h (phase.Count symbol) w = w ≡ wanted.Count symbol
 wanted_by h (phase.End e) w = w ≡ wanted.End
 wanted_by h (phase.Done e) w = w ≡ wanted.Done e
 
-
 -- all but the machine and what it has left is as before, and data memory as long
 pub record IsSameCall (h h' : Hart) : Type 0 where
   pub room : length h'.bytes.items ≡ length h.bytes.items

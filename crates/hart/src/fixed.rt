@@ -3,7 +3,7 @@ ghost use Rattle.std.specs.Prelude.{◌≡◌, ◌≤◌, ◌+◌, ◌++◌, ◌
 ghost use Rattle.rv_play.specs.Machine.{code_base};
 ghost use Rattle.rv_play.specs.Ending.{Item};
 ghost use Rattle.rv_play.specs.declared.version.Version.{Version};
-ghost use Rattle.hart.specs.Fixed.{code_of, bases_of, AreVersions, Serves};
+ghost use Rattle.hart.specs.Fixed.{code_of, bases_of, AreVersions, IsServed};
 
 use crate::fabric::Fabric;
 use crate::map::CODE;
@@ -29,13 +29,7 @@ impl FixedFabric {
         ensures code { IfOk result (λ f. f.code.items ≡ code_of 0 versions.items) }
         ensures idle { IfOk result (λ f. f.begun ≡ false) }
     {
-        let mut cells = Vec::new(alloc);
-        let mut code = Vec::new(alloc);
-        for version in &versions {
-            if push_version(&mut cells, &mut code, version).is_err() {
-                return Err(NoMemory);
-            }
-        }
+        let (cells, code) = lay_out(alloc, versions.as_slice())?;
         Ok(FixedFabric {
             cells,
             code,
@@ -44,8 +38,29 @@ impl FixedFabric {
     }
 }
 
+// The cells and the code words of versions.
+fn lay_out(alloc: Global, versions: &[Version]) -> Result<(Vec<u64>, Vec<u32>), NoMemory>
+    requires { AreVersions versions.now }
+    ensures cells { IfOk result (λ laid. laid.0.items ≡ bases_of 0 versions.now) }
+    ensures code { IfOk result (λ laid. laid.1.items ≡ code_of 0 versions.now) }
+    ensures fewer { IfOk result (λ laid. length laid.0.items ≤ length laid.1.items) }
+{
+    let mut cells = Vec::new(alloc);
+    let mut code = Vec::new(alloc);
+    for version in versions {
+        if push_version(&mut cells, &mut code, version).is_err() {
+            return Err(NoMemory);
+        }
+    }
+    Ok((cells, code))
+}
+
 // Adds a version behind those that stand: its base to the cells, and its header and words to the code.
-fn push_version(cells: &mut Vec<u64>, code: &mut Vec<u32>, version: &Version) -> Result<(), AllocError>
+fn push_version(
+    cells: &mut Vec<u64>,
+    code: &mut Vec<u32>,
+    version: &Version,
+) -> Result<(), AllocError>
     requires room { length code.old.items + 1 + length version.now.words ≤ 4194304 }
     requires cells { length cells.old.items ≤ length code.old.items }
     ensures cells { OnOk result (cells.new.items ≡ cells.old.items ++ (code_base + 4 * (length code.old.items + 1)) ∷ []) }
@@ -65,7 +80,7 @@ impl Fabric for FixedFabric {
 
     ghost is_begun = { λ f. f.begun };
 
-    ghost stands = { λ since f pass counted. Serves f.cells.items f.code.items pass };
+    ghost stands = { λ since f pass counted. IsServed since.cells.items since.code.items f.cells.items f.code.items pass };
 
     fn symbols(&self) -> u32 {
         self.cells.len() as u32

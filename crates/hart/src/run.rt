@@ -31,12 +31,7 @@ fn ask<F: Fabric>(fabric: &mut F, wanted: Wanted) -> Given
 
 impl Hart {
     /// Runs a call over a fabric, from its image. Fuel comes only once 256 instructions a turn were run.
-    pub fn run_call<F: Fabric>(
-        &mut self,
-        fabric: &mut F,
-        image: &Image,
-        call: &ListedCall,
-    ) -> Ended
+    pub fn run_call<F: Fabric>(&mut self, fabric: &mut F, image: &Image, call: &ListedCall) -> Ended
         requires image { HasRoomFor (vec_len self.old.bytes) image.now }
         requires call { IsCall self.old.functions call.now }
         requires idle { F.is_begun fabric.old ≡ false }

@@ -11,7 +11,7 @@ loop-wanted-init g c = record {
   asked = subst (λ (p : Phase). IsNext p c.turn-wanted.new.self c.turn-wanted.result) c.requires.phase c.turn-wanted.ensures.next;
   both = λ since known o b.
       both_begun g.F.Fabric.stands since c.args.fabric.now known o c.args.self.now c.turn-wanted.new.self c.args.self.now.phase c.requires.phase
-        c.turn-wanted.ensures.stands b.pass b.counted b.fabric_stands b.hart_stands;
+      c.turn-wanted.ensures.stands b.pass b.counted b.fabric_stands b.hart_stands;
   begun = c.requires.begun;
   symbols = refl;
   code_words = refl;
@@ -26,8 +26,8 @@ loop-wanted-preserved g c = record {
   both = λ since known o b.
       let k = c.loop-wanted.invariant.both since known o b in
       both_after g.F.Fabric.stands since c.loop-wanted.fabric c.ask-given.new.fabric known o c.loop-wanted.self c.turn-wanted-in-loop-wanted.new.self
-        c.loop-wanted.self.phase c.loop-wanted.wanted c.ask-given.result
-        c.loop-wanted.invariant.wanted c.ask-given.ensures.asked c.turn-wanted-in-loop-wanted.ensures.stands k.pass k.counted k.fabric_stands k.hart_stands;
+      c.loop-wanted.self.phase c.loop-wanted.wanted c.ask-given.result
+      c.loop-wanted.invariant.wanted c.ask-given.ensures.asked c.turn-wanted-in-loop-wanted.ensures.stands k.pass k.counted k.fabric_stands k.hart_stands;
   begun = c.ask-given.ensures.begun;
   symbols = c.ask-given.ensures.symbols ∙ c.loop-wanted.invariant.symbols;
   code_words = c.ask-given.ensures.code_words ∙ c.loop-wanted.invariant.code_words;
