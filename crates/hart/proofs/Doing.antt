@@ -67,8 +67,8 @@ pub does-fault : (m : Meaning) (s s' : Machine) (h : Hart) (counted : List ℕ) 
     → do_instr m (record { machine = s; pass = pass; counted = counted }) i ≡ next_of h counted pass did.Fault
 does-fault m s s' h counted pass i e back =
     let same : machine_of h ≡ s =
-        back ∙ ap (λ (t : Machine). record t { regs = at_pc s.regs.pc t.regs }) e.2
-        ∙ ap (λ (r : Registers). record s { regs = r }) (fails_in_place m s i e.1) in
+    back ∙ ap (λ (t : Machine). record t { regs = at_pc s.regs.pc t.regs }) e.2
+    ∙ ap (λ (r : Registers). record s { regs = r }) (fails_in_place m s i e.1) in
     acts m s counted pass i Fails e.0 e.1
     ∙ ap (λ (t : Machine). Ends (ended.Fault t.regs.pc) (record { machine = t; pass = pass; counted = counted })) (sym same)
 

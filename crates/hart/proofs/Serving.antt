@@ -61,7 +61,7 @@ load_bytes_served m regs regs' b c lb lc a place v op rd room found value put =
     let t = first_found (is_within data_base lb a (load_size op)) (is_within control_base lc a (load_size op)) (a - data_base) (a - control_base) place found in
     let low : data_base ≤ a = above data_base lb a (load_size op) t.0 in
     let same : extended op (load_bytes (bytes_from data_base b) a (load_size op)) ≡ v =
-        ap (λ (n : ℕ). extended op n) (load_from data_base b a (load_size op) low ∙ ap (λ (i : ℕ). load_bytes (slice_index b) i (load_size op)) (sym t.1)) ∙ sym value in
+    ap (λ (n : ℕ). extended op n) (load_from data_base b a (load_size op) low ∙ ap (λ (i : ℕ). load_bytes (slice_index b) i (load_size op)) (sym t.1)) ∙ sym value in
     pick (in_data m a (load_size op)) _ _ (in_bytes m lb a (load_size op) room ∙ t.0)
     ∙ ap (λ (r : Registers). On (machine_at r b c)) (ap (λ (n : ℕ). write regs rd n) same ∙ sym put)
 
@@ -73,7 +73,7 @@ load_control_served m regs regs' b c lb lc a place v op rd room stack found valu
     let t = second_found (is_within data_base lb a (load_size op)) (is_within control_base lc a (load_size op)) (a - data_base) (a - control_base) place found in
     let low : control_base ≤ a = above control_base lc a (load_size op) t.1 in
     let same : extended op (load_bytes (bytes_from control_base c) a (load_size op)) ≡ v =
-        ap (λ (n : ℕ). extended op n) (load_from control_base c a (load_size op) low ∙ ap (λ (i : ℕ). load_bytes (slice_index c) i (load_size op)) (sym t.2)) ∙ sym value in
+    ap (λ (n : ℕ). extended op n) (load_from control_base c a (load_size op) low ∙ ap (λ (i : ℕ). load_bytes (slice_index c) i (load_size op)) (sym t.2)) ∙ sym value in
     pick_no (in_data m a (load_size op)) _ _ (in_bytes m lb a (load_size op) room ∙ t.0)
     ∙ pick (in_control a (load_size op)) _ _ (in_stack lc a (load_size op) stack ∙ t.1)
     ∙ ap (λ (r : Registers). On (machine_at r b c)) (ap (λ (n : ℕ). write regs rd n) same ∙ sym put)
@@ -87,7 +87,7 @@ store_bytes_served m regs b b' c lb lc a place v op room found stored =
     let low : data_base ≤ a = above data_base lb a (store_size op) t.0 in
     pick (in_data m a (store_size op)) _ _ (in_bytes m lb a (store_size op) room ∙ t.0)
     ∙ ap (λ (f : ℕ → ℕ). On (record { regs = regs; bytes = f; control = bytes_from control_base c }))
-        (sym (store_from data_base b b' a (store_size op) v low (stored ∙ ap (λ (i : ℕ). store_bytes (slice_index b) i (store_size op) v) t.1)))
+    (sym (store_from data_base b b' a (store_size op) v low (stored ∙ ap (λ (i : ℕ). store_bytes (slice_index b) i (store_size op) v) t.1)))
 
 pub store_control_served : (m : Meaning) (regs : Registers) (b c c' : List ℕ) (lb lc a place v : ℕ) (op : StoreOp)
     → m.room ≡ lb → lc ≡ 8388608 → found_at lb lc a (store_size op) ≡ Control place
@@ -99,4 +99,4 @@ store_control_served m regs b c c' lb lc a place v op room stack found stored =
     pick_no (in_data m a (store_size op)) _ _ (in_bytes m lb a (store_size op) room ∙ t.0)
     ∙ pick (in_control a (store_size op)) _ _ (in_stack lc a (store_size op) stack ∙ t.1)
     ∙ ap (λ (f : ℕ → ℕ). On (record { regs = regs; bytes = bytes_from data_base b; control = f }))
-        (sym (store_from control_base c c' a (store_size op) v low (stored ∙ ap (λ (i : ℕ). store_bytes (slice_index c) i (store_size op) v) t.2)))
+    (sym (store_from control_base c c' a (store_size op) v low (stored ∙ ap (λ (i : ℕ). store_bytes (slice_index c) i (store_size op) v) t.2)))

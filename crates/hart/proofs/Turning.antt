@@ -82,45 +82,45 @@ pub steps_in_stub : (m : Meaning) (h : Hart) (counted : List ℕ) (pass : List I
     → goes_on m h (run_of h counted pass) ≡ goes_to (run m h.code_words h.width h.fuel (h.left - 1)) (do_instr m (run_of h counted pass) (stub_instr symbol place))
 steps_in_stub m h counted pass symbol place f a =
     let t = at_stub (h.regs.pc == exit_address) (h.left == 0)
-        ((nat_le stub_base h.regs.pc) && ((nat_lt h.regs.pc (stub_of h.functions)) && (h.regs.pc % 4 == 0)))
-        (in_code h.code_words h.regs.pc) ((h.regs.pc - stub_base) / 16) (place_in_stub h) symbol place a in
+    ((nat_le stub_base h.regs.pc) && ((nat_lt h.regs.pc (stub_of h.functions)) && (h.regs.pc % 4 == 0)))
+    (in_code h.code_words h.regs.pc) ((h.regs.pc - stub_base) / 16) (place_in_stub h) symbol place a in
     let inside : in_stubs m h.regs.pc ≡ true =
-        ap (λ (n : ℕ). (nat_le stub_base h.regs.pc) && ((nat_lt h.regs.pc (stub_of n)) && (h.regs.pc % 4 == 0))) f.functions ∙ t.2 in
+    ap (λ (n : ℕ). (nat_le stub_base h.regs.pc) && ((nat_lt h.regs.pc (stub_of n)) && (h.regs.pc % 4 == 0))) f.functions ∙ t.2 in
     steps m h.code_words h.width h.fuel h.left (run_of h counted pass) _ t.0 t.1
-        (pick (in_stubs m h.regs.pc) _ _ inside
-        ∙ ap (λ (k : ℕ). do_instr m (run_of h counted pass) (stub_instr k (place_in_stub h))) (sym t.3)
-        ∙ ap (λ (k : ℕ). do_instr m (run_of h counted pass) (stub_instr symbol k)) (sym t.4))
+    (pick (in_stubs m h.regs.pc) _ _ inside
+    ∙ ap (λ (k : ℕ). do_instr m (run_of h counted pass) (stub_instr k (place_in_stub h))) (sym t.3)
+    ∙ ap (λ (k : ℕ). do_instr m (run_of h counted pass) (stub_instr symbol k)) (sym t.4))
 
 pub steps_in_code : (m : Meaning) (h : Hart) (counted : List ℕ) (pass : List Item) → IsFor m h → at_of h ≡ Code
     → goes_on m h (run_of h counted pass) ≡ goes_to (run m h.code_words h.width h.fuel (h.left - 1)) (seen m (run_of h counted pass) pass)
 steps_in_code m h counted pass f a =
     let t = at_code (h.regs.pc == exit_address) (h.left == 0)
-        ((nat_le stub_base h.regs.pc) && ((nat_lt h.regs.pc (stub_of h.functions)) && (h.regs.pc % 4 == 0)))
-        (in_code h.code_words h.regs.pc) ((h.regs.pc - stub_base) / 16) (place_in_stub h) a in
+    ((nat_le stub_base h.regs.pc) && ((nat_lt h.regs.pc (stub_of h.functions)) && (h.regs.pc % 4 == 0)))
+    (in_code h.code_words h.regs.pc) ((h.regs.pc - stub_base) / 16) (place_in_stub h) a in
     let outside : in_stubs m h.regs.pc ≡ false =
-        ap (λ (n : ℕ). (nat_le stub_base h.regs.pc) && ((nat_lt h.regs.pc (stub_of n)) && (h.regs.pc % 4 == 0))) f.functions ∙ t.2 in
+    ap (λ (n : ℕ). (nat_le stub_base h.regs.pc) && ((nat_lt h.regs.pc (stub_of n)) && (h.regs.pc % 4 == 0))) f.functions ∙ t.2 in
     steps m h.code_words h.width h.fuel h.left (run_of h counted pass) _ t.0 t.1
-        (pick_no (in_stubs m h.regs.pc) _ _ outside ∙ pick (in_code h.code_words h.regs.pc) _ _ t.3)
+    (pick_no (in_stubs m h.regs.pc) _ _ outside ∙ pick (in_code h.code_words h.regs.pc) _ _ t.3)
 
 pub has_left : (h : Hart) → at_of h ≡ Code → 0 < h.left
 has_left h a =
     let t = at_code (h.regs.pc == exit_address) (h.left == 0)
-        ((nat_le stub_base h.regs.pc) && ((nat_lt h.regs.pc (stub_of h.functions)) && (h.regs.pc % 4 == 0)))
-        (in_code h.code_words h.regs.pc) ((h.regs.pc - stub_base) / 16) (place_in_stub h) a in
+    ((nat_le stub_base h.regs.pc) && ((nat_lt h.regs.pc (stub_of h.functions)) && (h.regs.pc % 4 == 0)))
+    (in_code h.code_words h.regs.pc) ((h.regs.pc - stub_base) / 16) (place_in_stub h) a in
     let some : (h.left == 0) ≡ false = t.1 in grind arith
 
 pub code_address : (h : Hart) → at_of h ≡ Code → IsCodeAddress h.code_words h.regs.pc
 code_address h a =
     let t = at_code (h.regs.pc == exit_address) (h.left == 0)
-        ((nat_le stub_base h.regs.pc) && ((nat_lt h.regs.pc (stub_of h.functions)) && (h.regs.pc % 4 == 0)))
-        (in_code h.code_words h.regs.pc) ((h.regs.pc - stub_base) / 16) (place_in_stub h) a in
+    ((nat_le stub_base h.regs.pc) && ((nat_lt h.regs.pc (stub_of h.functions)) && (h.regs.pc % 4 == 0)))
+    (in_code h.code_words h.regs.pc) ((h.regs.pc - stub_base) / 16) (place_in_stub h) a in
     let inside : in_code h.code_words h.regs.pc ≡ true = t.3 in (grind arith, grind arith, grind arith)
 
 pub has_left_in_stub : (h : Hart) (symbol place : ℕ) → at_of h ≡ Stub symbol place → 0 < h.left
 has_left_in_stub h symbol place a =
     let t = at_stub (h.regs.pc == exit_address) (h.left == 0)
-        ((nat_le stub_base h.regs.pc) && ((nat_lt h.regs.pc (stub_of h.functions)) && (h.regs.pc % 4 == 0)))
-        (in_code h.code_words h.regs.pc) ((h.regs.pc - stub_base) / 16) (place_in_stub h) symbol place a in
+    ((nat_le stub_base h.regs.pc) && ((nat_lt h.regs.pc (stub_of h.functions)) && (h.regs.pc % 4 == 0)))
+    (in_code h.code_words h.regs.pc) ((h.regs.pc - stub_base) / 16) (place_in_stub h) symbol place a in
     let some : (h.left == 0) ≡ false = t.1 in grind arith
 
 -- a stub's instruction has led to this
@@ -158,7 +158,7 @@ seen_word m h counted pass word = pick (h.regs.pc == h.regs.pc) _ _ (same_number
 -- the base that the hart waits for
 pub given_base : (h : Hart) (counted : List ℕ) (pass : List Item) (rd : Reg) (symbol base : ℕ)
     → cell_given (machine_of h) counted rd symbol (Held symbol base ∷ pass)
-        ≡ Goes (record { machine = record (machine_of h) { regs = write (view h.regs) rd base }; pass = pass; counted = counted })
+    ≡ Goes (record { machine = record (machine_of h) { regs = write (view h.regs) rd base }; pass = pass; counted = counted })
 given_base h counted pass rd symbol base = pick (symbol == symbol) _ _ (same_number symbol)
 
 -- the instruction of the word that was given has led to this

@@ -1,3 +1,4 @@
 pub mod Places
 pub mod Standing
 pub mod Calls
+pub mod Fixed

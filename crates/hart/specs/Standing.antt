@@ -69,6 +69,7 @@ goes_on m h r = run m h.code_words h.width h.fuel h.left r
 abbrev pub rest_of : Meaning → Hart → Phase → List ℕ → List Item → Option (Ended × Run)
 rest_of m h phase.Idle counted pass = None
 rest_of m h phase.Start counted pass = goes_on m h (run_of h counted pass)
+rest_of m h phase.Begin counted pass = goes_on m h (run_of h counted pass)
 rest_of m h phase.Fetch counted pass = goes_to (goes_on m h) (seen m (run_of h counted pass) pass)
 rest_of m h (phase.Cell rd symbol) counted pass = goes_to (goes_on m h) (cell_given (machine_of h) counted rd symbol pass)
 rest_of m h (phase.Count symbol) counted pass = goes_on m h (run_of h counted pass)
@@ -83,13 +84,13 @@ with_counted _ counted = counted
 -- what the hart wants where it stands
 abbrev pub wanted_by : Hart → Phase → Wanted → Type 0
 wanted_by h phase.Idle w = ⊥
-wanted_by h phase.Start w = w ≡ wanted.Begin
+wanted_by h phase.Start w = ⊥
+wanted_by h phase.Begin w = w ≡ wanted.Begin
 wanted_by h phase.Fetch w = w ≡ wanted.Fetch h.regs.pc
 wanted_by h (phase.Cell rd symbol) w = w ≡ wanted.Cell symbol
 wanted_by h (phase.Count symbol) w = w ≡ wanted.Count symbol
 wanted_by h (phase.End e) w = w ≡ wanted.End
 wanted_by h (phase.Done e) w = w ≡ wanted.Done e
-
 
 -- all but the machine and what it has left is as before, and data memory as long
 pub record IsSameCall (h h' : Hart) : Type 0 where
@@ -122,7 +123,8 @@ IsAsked h (wanted.Done e) = ⊥
 -- more than the turns that the hart will still take
 abbrev pub turns_left : Hart → Phase → ℕ
 turns_left h phase.Idle = 0
-turns_left h phase.Start = 2 * h.left + 2
+turns_left h phase.Start = 2 * h.left + 3
+turns_left h phase.Begin = 2 * h.left + 2
 turns_left h phase.Fetch = 2 * h.left + 3
 turns_left h (phase.Cell rd symbol) = 2 * h.left + 2
 turns_left h (phase.Count symbol) = 2 * h.left + 2
@@ -166,6 +168,7 @@ pub record Turns (h h' : Hart) (items : List Item) (w : Wanted) : Type 0 where
 abbrev pub IsGiven : Phase → Given → Type 0
 IsGiven phase.Idle g = ⊥
 IsGiven phase.Start g = g ≡ given.Nothing
+IsGiven phase.Begin g = g ≡ given.Nothing
 IsGiven phase.Fetch g = (word : ℕ) × (g ≡ given.Word word)
 IsGiven (phase.Cell rd symbol) g = (base : ℕ) × (g ≡ given.Cell base)
 IsGiven (phase.Count symbol) g = g ≡ given.Nothing
@@ -178,8 +181,9 @@ item_of h phase.Fetch (given.Word word) = Saw h.regs.pc word ∷ []
 item_of h (phase.Cell rd symbol) (given.Cell base) = Held symbol base ∷ []
 item_of h _ _ = []
 
--- what is wanted next: the last is the end of the call
+-- what is wanted next: the first is to begin the call, and the last is its end
 abbrev pub IsNext : Phase → Hart → Wanted → Type 0
+IsNext phase.Start h w = w ≡ wanted.Begin
 IsNext (phase.End e) h w = w ≡ wanted.Done e
 IsNext _ h w = IsAsked h w
 

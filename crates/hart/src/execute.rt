@@ -56,7 +56,12 @@ impl Hart {
     {
         match cell_of(op, self.functions, address) {
             Some(symbol) => Did::Cell(rd, symbol),
-            None => match find(self.bytes.len(), self.control.len(), address, size_of_load(op)) {
+            None => match find(
+                self.bytes.len(),
+                self.control.len(),
+                address,
+                size_of_load(op),
+            ) {
                 Found::Bytes(place) => {
                     let value = load_number(op, &self.bytes, place);
                     self.regs.write(rd, value);
@@ -78,7 +83,12 @@ impl Hart {
         ensures left { self.new.left ≡ self.old.left }
         ensures allowed { IsAllowed self.old result }
     {
-        match find(self.bytes.len(), self.control.len(), address, size_of_store(op)) {
+        match find(
+            self.bytes.len(),
+            self.control.len(),
+            address,
+            size_of_store(op),
+        ) {
             Found::Bytes(place) => {
                 store_number(op, &mut self.bytes, place, value);
                 Did::On

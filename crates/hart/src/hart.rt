@@ -44,6 +44,7 @@ pub enum Given {
 pub enum Phase {
     Idle,
     Start,
+    Begin,
     Fetch,
     /// A base, for a register.
     Cell(Reg, u32),

@@ -3,10 +3,16 @@
 
 mod bytes;
 mod execute;
+mod fabric;
+mod fixed;
 mod hart;
 mod map;
+mod run;
 mod start;
 mod turn;
+mod widths;
 mod words;
 
+pub use fabric::Fabric;
+pub use fixed::FixedFabric;
 pub use hart::{Given, Hart, Image, Wanted};

@@ -9,11 +9,17 @@ use rv_core::instr::{ImmOp, Instr, LoadOp};
 use rv_core::reg::Reg;
 
 pub const EXIT: u64 = 0x8000;
+
 pub const STUBS: u64 = 0x1_0000;
+
 pub const CELLS: u64 = 0x10_0000;
+
 pub const CODE: u64 = 0x100_0000;
+
 pub const DATA: u64 = 0x1000_0000;
+
 pub const CONTROL: u64 = 0x4000_0000;
+
 pub const CONTROL_END: u64 = 0x4080_0000;
 
 /// Where bytes stand: at a place of data memory, at one of the control stack, or in neither.
@@ -46,7 +52,10 @@ pub fn find(bytes: usize, control: usize, address: u64, size: u64) -> Found
     let control = control as u64;
     if DATA <= address && address <= DATA + bytes && size <= DATA + bytes - address {
         Found::Bytes((address - DATA) as usize)
-    } else if CONTROL <= address && address <= CONTROL + control && size <= CONTROL + control - address {
+    } else if CONTROL <= address
+        && address <= CONTROL + control
+        && size <= CONTROL + control - address
+    {
         Found::Control((address - CONTROL) as usize)
     } else {
         Found::Nowhere
@@ -60,7 +69,10 @@ pub fn cell_of(op: LoadOp, functions: u32, address: u64) -> Option<u32>
     ensures below { IfSome result (λ symbol. symbol < functions) }
 {
     match op {
-        LoadOp::Ld => if CELLS <= address && address < CELLS + 8 * functions as u64 && address % 8 == 0 {
+        LoadOp::Ld => if CELLS <= address
+            && address < CELLS + 8 * functions as u64
+            && address % 8 == 0
+        {
             Some(((address - CELLS) / 8) as u32)
         } else {
             None

@@ -46,16 +46,28 @@ impl Hart {
         ensures control { self.new.control ≡ self.old.control }
         ensures known { (self.new.functions ≡ self.old.functions) × (self.new.widths ≡ self.old.widths) }
         ensures code { self.new.code_words ≡ code_words }
+        ensures in_range { ((i : ℕ) → slice_index self.new.bytes.items i < 256) × ((i : ℕ) → slice_index self.new.control.items i < 256) }
     {
-        write_image(&mut self.bytes, image.bytes.as_slice(), (image.top - DATA) as usize);
+        write_image(
+            &mut self.bytes,
+            image.bytes.as_slice(),
+            (image.top - DATA) as usize,
+        );
         self.regs = first_regs(call.symbol, call.args.as_slice(), image.top);
         self.width = self.widths[call.symbol as usize];
         self.code_words = code_words;
         self.fuel = 256 * call.turns;
         self.left = self.fuel;
         self.phase = Phase::Start;
+        bytes_fit(&self.bytes);
+        bytes_fit(&self.control);
     }
 }
+
+// Each byte is below 256.
+fn bytes_fit(bytes: &Vec<u8>)
+    ensures { (i : ℕ) → slice_index bytes.now.items i < 256 }
+{}
 
 // So many bytes, each 0.
 fn zeros(alloc: Global, count: usize) -> Result<Vec<u8>, NoMemory>
@@ -105,8 +117,38 @@ fn first_regs(symbol: u32, args: &[u128], top: u64) -> Regs
     ];
     Regs {
         x: [
-            0, EXIT, CONTROL_END, 0, 0, 0, 0, 0, 0, 0, a[0], a[1], a[2], a[3], a[4], a[5], a[6],
-            a[7], 0, 0, 0, 0, 0, 0, 0, 0, 0, top, 0, 0, 0, 0,
+            0,
+            EXIT,
+            CONTROL_END,
+            0,
+            0,
+            0,
+            0,
+            0,
+            0,
+            0,
+            a[0],
+            a[1],
+            a[2],
+            a[3],
+            a[4],
+            a[5],
+            a[6],
+            a[7],
+            0,
+            0,
+            0,
+            0,
+            0,
+            0,
+            0,
+            0,
+            0,
+            top,
+            0,
+            0,
+            0,
+            0,
         ],
         pc: STUBS + 16 * symbol as u64,
     }

@@ -39,6 +39,10 @@ impl Hart {
                 _ => unreachable!(),
             },
             Given::Nothing => match self.phase {
+                Phase::Start => {
+                    self.phase = Phase::Begin;
+                    Wanted::Begin
+                }
                 Phase::End(ended) => {
                     self.phase = Phase::Done(ended);
                     Wanted::Done(ended)

@@ -7,8 +7,8 @@ pub returns-in_default : goal.returns-in_default
 returns-in_default c = record {
   goes = λ m f counted pass.
       word_done m c.args.self.now c.execute.new.self counted pass c.args.word c.in-Some.instr c.execute.result c.requires
-        (sym c.instr_at.ensures.value ∙ c.in-Some.is)
-        (c.execute.ensures.does m f counted pass) c.execute.ensures.keeps c.execute.ensures.left
+      (sym c.instr_at.ensures.value ∙ c.in-Some.is)
+      (c.execute.ensures.does m f counted pass) c.execute.ensures.keeps c.execute.ensures.left
       ∙ c.wait.ensures.goes m counted pass;
   wanted = c.wait.ensures.wanted;
   asked = c.wait.ensures.asked;
