@@ -6,3 +6,4 @@ pub mod Turning
 pub mod Knowing
 pub mod Asking
 pub mod Laid
+pub mod Answering

@@ -6,6 +6,7 @@ mod execute;
 mod fabric;
 mod fixed;
 mod hart;
+pub mod laws;
 mod map;
 mod run;
 mod start;
