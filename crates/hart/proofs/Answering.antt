@@ -68,9 +68,9 @@ right_answers program call memory image h h' code_words pass counted e l backed 
       refines = image_refines memory image h.bytes.items l.image_of l.room.low;
     } in
     let ends : ending (meaning program) code_words call.symbol call.turns
-          (start call.symbol call.args (length memory) (origin_of h image call 0).bytes (origin_of h image call 0).control pass) ≡ Some (e, run_of h' counted []) =
-        ap (λ (n : ℕ). ending (meaning program) code_words call.symbol call.turns
-          (start call.symbol call.args n (origin_of h image call 0).bytes (origin_of h image call 0).control pass)) l.image_of.long ∙ over in
+    (start call.symbol call.args (length memory) (origin_of h image call 0).bytes (origin_of h image call 0).control pass) ≡ Some (e, run_of h' counted []) =
+    ap (λ (n : ℕ). ending (meaning program) code_words call.symbol call.turns
+    (start call.symbol call.args n (origin_of h image call 0).bytes (origin_of h image call 0).control pass)) l.image_of.long ∙ over in
     backed-is-right program call memory (origin_of h image call 0).bytes (origin_of h image call 0).control code_words pass e (run_of h' counted []) listed backed ends refl
 
 pub right_fixed_answers : FixedAnswersAreRight

@@ -121,7 +121,7 @@ apart place (v ∷ vs) (suc k) (suc k') base base' h h' less =
     let r = (located (place + 1 + length v.words) 0 vs k base h).base_is in
     let other : base ≢ code_base + 4 * (place + 1) = λ e. omega arith in
     let own : words_at place (v ∷ vs) base ≡ words_at (place + 1 + length v.words) vs base =
-        pick_no (base == code_base + 4 * (place + 1)) _ _ (test_other base (code_base + 4 * (place + 1)) other) in
+    pick_no (base == code_base + 4 * (place + 1)) _ _ (test_other base (code_base + 4 * (place + 1)) other) in
     let long : length (words_at place (v ∷ vs) base) ≡ length (words_at (place + 1 + length v.words) vs base) = ap length own in
     let rest = apart (place + 1 + length v.words) vs k k' base base' h h' less in
     omega arith
@@ -156,11 +156,12 @@ agrees : (cells code : List ℕ) (base p : ℕ) (words : List ℕ) (pass : List 
     → ((i w : ℕ) → slice_get words i ≡ Some w → slice_get code (p + i) ≡ Some w) → Serves cells code pass → Agrees base words pass
 agrees cells code base p words [] e g s = tt
 agrees cells code base p words (Held k b ∷ pass) e g s = agrees cells code base p words pass e g s.1
-agrees cells code base p words (Saw a x ∷ pass) e g s =
-    ((λ i w at stands.
-        let j : (a - code_base) / 4 ≡ p + i = omega arith in
-        let both : Some w ≡ Some x = sym (g i w stands) ∙ ap (slice_get code) (sym j) ∙ s.1 in cc),
-    agrees cells code base p words pass e g s.2)
+agrees cells code base p words (Saw a x ∷ pass) e g s = (
+  (λ i w at stands.
+      let j : (a - code_base) / 4 ≡ p + i = omega arith in
+      let both : Some w ≡ Some x = sym (g i w stands) ∙ ap (slice_get code) (sym j) ∙ s.1 in cc),
+  agrees cells code base p words pass e g s.2,
+)
 
 backs : (m : Meaning) (vs : List Version) (pass : List Item) → AreVersions vs → AllGood m vs → Serves (bases_of 0 vs) (code_of 0 vs) pass
     → Backs m (length (code_of 0 vs)) (words_at 0 vs) pass
@@ -173,20 +174,26 @@ backs m vs (Held symbol base ∷ pass) a g s =
     let same : 0 + symbol ≡ symbol = omega arith in
     let good : Good m symbol r.version.words = subst (λ (k : ℕ). Good m k r.version.words) same (good_at m 0 vs symbol r.version g a.ordered r.at) in
     let stands : Agrees base r.version.words pass = agrees (bases_of 0 vs) (code_of 0 vs) base (0 + r.ahead + 1) r.version.words pass is
-        (λ i w h. (let j : 0 + r.ahead + 1 + i ≡ r.ahead + 1 + i = omega arith in ap (slice_get (code_of 0 vs)) j) ∙ r.stand i w h) s.1 in
-    ((subst (Good m symbol) (sym r.words) good,
-      record { aligned = omega arith; low = omega arith; high = omega arith },
-      omega arith,
-      subst (λ (ws : List ℕ). Agrees base ws pass) (sym r.words) stands),
-    backs m vs pass a g s.1)
+    (λ i w h. (let j : 0 + r.ahead + 1 + i ≡ r.ahead + 1 + i = omega arith in ap (slice_get (code_of 0 vs)) j) ∙ r.stand i w h) s.1 in (
+      (
+        subst (Good m symbol) (sym r.words) good,
+        record { aligned = omega arith; low = omega arith; high = omega arith },
+        omega arith,
+        subst (λ (ws : List ℕ). Agrees base ws pass) (sym r.words) stands,
+      ),
+      backs m vs pass a g s.1,
+    )
 
 -- passes over good versions are backed
 pub fixed_backed : (m : Meaning) (vs : List Version) (pass : List Item) → AreVersions vs → AllGood m vs → Serves (bases_of 0 vs) (code_of 0 vs) pass
     → Backed m (length (code_of 0 vs)) pass
-fixed_backed m vs pass a g s =
-    (a.room, words_at 0 vs, backs m vs pass a g s,
-    record {
-      one_symbol = λ k k' base c c'. one_place 0 vs k k' base (held_in (bases_of 0 vs) (code_of 0 vs) pass k base s c) (held_in (bases_of 0 vs) (code_of 0 vs) pass k' base s c');
-      disjoint = λ k k' base base' c c' less.
-          apart 0 vs k k' base base' (held_in (bases_of 0 vs) (code_of 0 vs) pass k base s c) (held_in (bases_of 0 vs) (code_of 0 vs) pass k' base' s c') less;
-    })
+fixed_backed m vs pass a g s = (
+  a.room,
+  words_at 0 vs,
+  backs m vs pass a g s,
+  record {
+    one_symbol = λ k k' base c c'. one_place 0 vs k k' base (held_in (bases_of 0 vs) (code_of 0 vs) pass k base s c) (held_in (bases_of 0 vs) (code_of 0 vs) pass k' base s c');
+    disjoint = λ k k' base base' c c' less.
+        apart 0 vs k k' base base' (held_in (bases_of 0 vs) (code_of 0 vs) pass k base s c) (held_in (bases_of 0 vs) (code_of 0 vs) pass k' base' s c') less;
+  },
+)

@@ -7,3 +7,4 @@ pub mod Knowing
 pub mod Asking
 pub mod Laid
 pub mod Answering
+pub mod Samples

@@ -10,6 +10,8 @@ pub mod laws;
 mod map;
 mod run;
 mod start;
+#[cfg(test)]
+mod tests;
 mod turn;
 mod widths;
 mod words;
