@@ -6,3 +6,5 @@ pub mod Turning
 pub mod Knowing
 pub mod Asking
 pub mod Laid
+pub mod Answering
+pub mod Samples

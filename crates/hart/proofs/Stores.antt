@@ -6,6 +6,7 @@ use Rattle.std.proofs.Math.Nat.{div-div-eq-div-mul}
 use Rattle.std.proofs.lemmas.Nat.{pow-add}
 use Rattle.rv_core.specs.Bytes.{load_bytes, store_bytes}
 use Rattle.rv_core.proofs.Bytes.{store_inside, store_outside, load_alike}
+use Rattle.rv_play.specs.Good.{IsBytes}
 use Rattle.rv_play.proofs.Runs.{lt_or_le}
 use Rattle.hart.specs.Places.{bytes_from}
 
@@ -75,3 +76,11 @@ load_from base items a (suc n) h =
 pub store_from : (base : ℕ) (items items' : List ℕ) (a n v : ℕ) → base ≤ a → slice_index items' ≡ store_bytes (slice_index items) (a - base) n v
     → bytes_from base items' ≡ store_bytes (bytes_from base items) a n v
 store_from base items items' a n v h e = fun_ext (λ x. stored-at base items items' a n v x h e (lt_or_le x base) (lt_or_le x a) (lt_or_le x (a + n)))
+
+in_range-at : (base : ℕ) (items : List ℕ) (x : ℕ) → ((i : ℕ) → slice_index items i < 256) → (x < base) ⊎ (base ≤ x) → bytes_from base items x < 256
+in_range-at base items x h (inl below) = rw (from_below base items x below) (omega arith)
+in_range-at base items x h (inr above) = rw (from_above base items x above) (h (x - base))
+
+-- bytes by address are in their range where those of the list are
+pub bytes_in_range : (base : ℕ) (items items' : List ℕ) → items' ≡ items → ((i : ℕ) → slice_index items' i < 256) → IsBytes (bytes_from base items)
+bytes_in_range base items items' e h = λ x. in_range-at base items x (λ i. rw (← e) (h i)) (lt_or_le x base)

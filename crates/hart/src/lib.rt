@@ -6,9 +6,12 @@ mod execute;
 mod fabric;
 mod fixed;
 mod hart;
+pub mod laws;
 mod map;
 mod run;
 mod start;
+#[cfg(test)]
+mod tests;
 mod turn;
 mod widths;
 mod words;

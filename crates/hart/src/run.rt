@@ -1,5 +1,6 @@
 // A call over a fabric.
 ghost use Rattle.std.specs.Prelude.{◌≡◌, ◌≢◌, ◌<◌, ◌≤◌, ℕ, List, vec_len, true, false};
+ghost use Rattle.rv_play.specs.Good.{IsBytes};
 ghost use Rattle.hart.specs.declared.hart.Hart.{Hart};
 ghost use Rattle.hart.specs.Standing.{IsSameCall};
 ghost use Rattle.hart.specs.Calls.{HasRoomFor, IsCall, Origin, Both, Asked, Answers, IsQuestion, HasEnded, Knows, origin_of};
@@ -42,6 +43,7 @@ impl Hart {
         ensures symbols { F.symbol_count fabric.new ≡ F.symbol_count fabric.old }
         ensures code_words { F.code_word_count fabric.new ≡ F.code_word_count fabric.old }
         ensures known { Knows self.old self.new }
+        ensures in_range { IsBytes (origin_of self.old image.now call.now (F.code_word_count fabric.old)).bytes × IsBytes (origin_of self.old image.now call.now (F.code_word_count fabric.old)).control }
     {
         self.start(image, call, fabric.code_words());
         let _ = self.turn(Given::Nothing);

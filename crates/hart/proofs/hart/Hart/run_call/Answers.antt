@@ -1,4 +1,4 @@
-use Rattle.std.proofs.Common.{◌≡◌, sym, subst, ◌∙◌, ℕ, List, [], ◌++◌}
+use Rattle.std.proofs.Common.{◌≡◌, sym, ap, subst, ◌∙◌, ℕ, List, [], ◌++◌}
 use Rattle.ir_meaning.specs.Plays.{Meaning}
 use Rattle.rv_play.specs.Ending.{Item}
 use Rattle.hart.specs.declared.hart.Phase.{Phase}
@@ -6,6 +6,8 @@ use Rattle.hart.specs.declared.hart.Wanted.TheVariants as wanted
 use Rattle.hart.specs.declared.hart.Given.TheVariants as given
 use Rattle.hart.specs.Standing.{IsFor, IsNext, item_of, with_counted}
 use Rattle.hart.specs.Calls.{Origin, Stands, origin_of}
+use Rattle.rv_play.specs.Machine.{data_base, control_base}
+use Rattle.hart.proofs.Stores.{bytes_in_range}
 use Rattle.hart.proofs.Asking.{at_done, answered}
 use Rattle.hart.proofs.hart.Hart.run_call.Goals as goal
 
@@ -30,3 +32,9 @@ returns-clause-answers g c =
     (cc) c.turn-2.ensures.stands
     (λ pass counted x. c.end.ensures.stands c.args.fabric.now pass counted x)
     served
+
+pub returns-clause-in_range : goal.returns-clause-in_range
+returns-clause-in_range g c = (
+  bytes_in_range data_base _ c.start.new.self.bytes.items c.start.ensures.bytes c.start.ensures.in_range.0,
+  bytes_in_range control_base _ c.start.new.self.control.items (cc) c.start.ensures.in_range.1,
+)
