@@ -1,0 +1,12 @@
+pub mod Lists
+pub mod Refused
+pub mod Exact
+pub mod Repeat
+pub mod Parts
+pub mod ModuleText
+pub mod CallsText
+pub mod Made
+pub mod Listed
+pub mod Readying
+pub mod Front
+pub mod Stopping

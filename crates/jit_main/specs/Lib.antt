@@ -1,0 +1,10 @@
+pub mod Form
+pub mod Names
+pub mod Numbers
+pub mod ModuleText
+pub mod CallsText
+pub mod Answers
+pub mod Lines
+pub mod Reads
+pub mod Run
+pub mod Ready
