@@ -1,0 +1,4 @@
+pub mod Ends
+pub mod Bits
+pub mod Refines
+pub mod Simulation
