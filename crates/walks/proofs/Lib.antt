@@ -4,3 +4,6 @@ pub mod Steps
 pub mod Simulate
 pub mod Invariant
 pub mod Taken
+pub mod Numbers
+pub mod Called
+pub mod IrBits

@@ -1,5 +1,5 @@
 -- When the play of one function refines that of another.
-use Rattle.std.specs.Prelude.{◌≡◌, ℕ, ◌*◌, ◌≤◌, Bool, List, [], ◌∷◌, length, slice_get, Some}
+use Rattle.std.specs.Prelude.{◌≡◌, ℕ, ◌*◌, ◌≤◌, Bool, List, [], ◌∷◌, length, slice_index_or, Some, None}
 use Rattle.ir_meaning.specs.Memory.{Memory}
 use Rattle.ir_meaning.specs.Play.{EndOf, Calls, Returns, Overflows, NotEnded, Undefined}
 use Rattle.walks.specs.Ends.{EntryOf, PlaysTo}
@@ -19,7 +19,7 @@ AllRefine (a ∷ as_) (b ∷ bs) = RefinesBits a b × AllRefine as_ bs
 -- as long, and where a byte isn't poison it is the same
 pub record RefinesMemory (a b : Memory) : Type 0 where
   pub long : length b ≡ length a
-  pub bytes : (i byte : ℕ) → slice_get a i ≡ Some (Some byte) → slice_get b i ≡ Some (Some byte)
+  pub bytes : (i byte : ℕ) → slice_index_or a i None ≡ Some byte → slice_index_or b i None ≡ Some byte
 
 pub record RefinesReply (a b : BitReply) : Type 0 where
   pub value : RefinesBits a.value b.value
