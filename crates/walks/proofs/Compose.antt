@@ -1,5 +1,7 @@
 -- Refinement of values and ends is reflexive, and refinement composes.
-use Rattle.std.proofs.Common.{◌≡◌, refl, sym, subst, ◌∙◌, ℕ, ◌*◌, ◌≤◌, List, [], ◌∷◌, arith, mul_assoc, mul-le-mul_left}
+use Rattle.std.proofs.Common.{◌≡◌, refl, sym, subst, ◌∙◌, ℕ, ◌*◌, ◌≤◌, List, [], ◌∷◌, Option, Some, None, arith, mul_assoc, mul-le-mul_left}
+use Rattle.ir_meaning.specs.Value.{Byte}
+use Rattle.ir_meaning.specs.Value as value
 use Rattle.ir_meaning.specs.Memory.{Memory}
 use Rattle.ir_meaning.specs.Play.{EndOf, Calls, Returns, Overflows, NotEnded, Undefined}
 use Rattle.walks.specs.Ends.{EntryOf}
@@ -13,8 +15,13 @@ pub same_all : (a : List Bits) → AllRefine a a
 same_all [] = tt
 same_all (a ∷ as_) = (same_bits a, same_all as_)
 
+same_byte : (b : Byte) → value.Refines b b
+same_byte None = tt
+same_byte (Some n) = refl
+
 pub same_memory : (m : Memory) → RefinesMemory m m
-same_memory m = record { long = refl; bytes = λ i b h. h }
+same_memory [] = tt
+same_memory (b ∷ bs) = (same_byte b, same_memory bs)
 
 pub same_replies : (rs : List BitReply) → AllReply rs rs
 same_replies [] = tt
@@ -34,8 +41,17 @@ all_compose (a ∷ as_) [] c p q = absurd p
 all_compose (a ∷ as_) (b ∷ bs) [] p q = q
 all_compose (a ∷ as_) (b ∷ bs) (c ∷ cs) p q = (bits_compose a b c p.0 q.0, all_compose as_ bs cs p.1 q.1)
 
+byte_compose : (a b c : Byte) → value.Refines a b → value.Refines b c → value.Refines a c
+byte_compose None b c p q = tt
+byte_compose (Some n) b c p q = subst (λ (x : Byte). value.Refines x c) p q
+
 pub memory_compose : (a b c : Memory) → RefinesMemory a b → RefinesMemory b c → RefinesMemory a c
-memory_compose a b c p q = record { long = q.long ∙ p.long; bytes = λ i x h. q.bytes i x (p.bytes i x h) }
+memory_compose [] [] [] p q = tt
+memory_compose [] [] (c ∷ cs) p q = q
+memory_compose [] (b ∷ bs) c p q = absurd p
+memory_compose (a ∷ as_) [] c p q = absurd p
+memory_compose (a ∷ as_) (b ∷ bs) [] p q = q
+memory_compose (a ∷ as_) (b ∷ bs) (c ∷ cs) p q = (byte_compose a b c p.0 q.0, memory_compose as_ bs cs p.1 q.1)
 
 -- what refines a call, a return, an overflow
 abbrev FromCall : ℕ → List Bits → Memory → EndOf Bits → Type 0

@@ -1,5 +1,6 @@
 -- When the play of one function refines that of another.
-use Rattle.std.specs.Prelude.{◌≡◌, ℕ, ◌*◌, ◌≤◌, Bool, List, [], ◌∷◌, length, slice_index_or, Some, None}
+use Rattle.std.specs.Prelude.{◌≡◌, ℕ, ◌*◌, ◌≤◌, Bool, List, [], ◌∷◌, Some}
+use Rattle.ir_meaning.specs.Value as value
 use Rattle.ir_meaning.specs.Memory.{Memory}
 use Rattle.ir_meaning.specs.Play.{EndOf, Calls, Returns, Overflows, NotEnded, Undefined}
 use Rattle.walks.specs.Ends.{EntryOf, PlaysTo}
@@ -16,10 +17,9 @@ AllRefine [] (b ∷ bs) = ⊥
 AllRefine (a ∷ as_) [] = ⊥
 AllRefine (a ∷ as_) (b ∷ bs) = RefinesBits a b × AllRefine as_ bs
 
--- as long, and where a byte isn't poison it is the same
-pub record RefinesMemory (a b : Memory) : Type 0 where
-  pub long : length b ≡ length a
-  pub bytes : (i byte : ℕ) → slice_index_or a i None ≡ Some byte → slice_index_or b i None ≡ Some byte
+-- byte by byte: where one isn't poison it is the same
+abbrev pub RefinesMemory : Memory → Memory → Type 0
+RefinesMemory = value.AllRefine
 
 pub record RefinesReply (a b : BitReply) : Type 0 where
   pub value : RefinesBits a.value b.value
