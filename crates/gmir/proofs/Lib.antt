@@ -1,3 +1,4 @@
 pub mod Monotone
 pub mod Bytes
 pub mod Costs
+pub mod Lock

@@ -7,3 +7,4 @@ pub mod Taken
 pub mod Numbers
 pub mod Called
 pub mod IrBits
+pub mod Together
