@@ -2,3 +2,4 @@ pub mod Monotone
 pub mod Bytes
 pub mod Costs
 pub mod Lock
+pub mod Itself
