@@ -54,11 +54,11 @@ memory_compose (a ∷ as_) (b ∷ bs) [] p q = q
 memory_compose (a ∷ as_) (b ∷ bs) (c ∷ cs) p q = (byte_compose a b c p.0 q.0, memory_compose as_ bs cs p.1 q.1)
 
 -- what refines a call, a return, an overflow
-abbrev FromCall : ℕ → List Bits → Memory → EndOf Bits → Type 0
+abbrev pub FromCall : ℕ → List Bits → Memory → EndOf Bits → Type 0
 FromCall callee args memory (Calls callee' args' memory') = (callee' ≡ callee) × AllRefine args args' × RefinesMemory memory memory'
 FromCall callee args memory _ = ⊥
 
-abbrev Refined : EndOf Bits → EndOf Bits → Type 0
+abbrev pub Refined : EndOf Bits → EndOf Bits → Type 0
 Refined (Calls callee args memory) e = FromCall callee args memory e
 Refined (Returns value memory) (Returns value' memory') = RefinesBits value value' × RefinesMemory memory memory'
 Refined Overflows Overflows = Unit {0}

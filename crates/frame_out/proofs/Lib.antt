@@ -1,0 +1,3 @@
+pub mod Settle
+pub mod Values
+pub mod Good
