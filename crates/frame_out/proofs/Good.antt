@@ -13,14 +13,14 @@ use Rattle.ir_meaning.specs.Step.{Program, function_at}
 use Rattle.ir_meaning.specs.Play.{EndOf, PlayEnd, Calls, Returns, Overflows, NotEnded, Undefined}
 use Rattle.ir_meaning.specs.Plays.{Meaning, Invocation, play_of}
 use Rattle.ir_meaning.specs.Meaning.{meaning, of_function, result_width}
-use Rattle.ir_meaning.specs.Ranges.{FitsResult, AreArgs, IsInvocation, IsReply, IsReplyTo, Answers, IsMeaning}
+use Rattle.ir_meaning.specs.Ranges.{FitsResult, IsInvocation, IsReply, Answers, IsMeaning}
 use Rattle.ir_meaning.specs.Typed.{IsTyped, IsResultType}
 use Rattle.ir_meaning.proofs.Ranges.{is-meaning}
 use Rattle.rv_play.specs.Machine.{Machine, data_base}
 use Rattle.rv_play.specs.CodePlay.{Point, CodeEnd, CodeReply, code_play}
 use Rattle.rv_play.specs.CodePlay as code
 use Rattle.rv_play.specs.Good.{Good, Enters, IsBase, AreReplies, RefinesResult, arg_regs, RefinesEnd, IsRunning}
-use Rattle.walks.specs.Ends.{EntryOf, PlaysTo}
+use Rattle.walks.specs.Ends.{PlaysTo}
 use Rattle.walks.specs.Bits.{Bits, BitReply, BitWalker}
 use Rattle.walks.specs.Refines.{RefinesBits, AllRefine, AllReply, RefinesEntry, IsDefined, RefinesPlay}
 use Rattle.walks.specs.Refines as refines

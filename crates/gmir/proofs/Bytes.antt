@@ -1,5 +1,5 @@
 -- What is loaded, and what is stored, is the same where more bytes are known.
-use Rattle.std.proofs.Common.{◌≡◌, refl, sym, ap, subst, ◌∙◌, ℕ, zero, suc, ◌+◌, ◌-◌, Bool, List, [], ◌∷◌, ◌++◌, length, take, drop, Option, Some, None}
+use Rattle.std.proofs.Common.{◌≡◌, refl, sym, ap, subst, ℕ, zero, suc, ◌+◌, ◌-◌, [], ◌∷◌, ◌++◌, length, take, drop, Some, None}
 use Rattle.std.specs.Prelude.{nat_lt, replicate}
 use Rattle.ir_meaning.specs.Value.{Byte}
 use Rattle.ir_meaning.specs.Value as value

@@ -9,7 +9,7 @@ use Rattle.gmir.specs.declared.code.GOp.{GOp}
 use Rattle.gmir.specs.declared.code.GOp.TheVariants.{Add, Sub, Mul, UDiv, SDiv, URem, SRem, And, Or, Xor, Shl, LShr, AShr, Icmp, Select, Trunc, ZExt, SExt, AnyExt, SExtInReg, PtrToInt, IntToPtr, PtrAdd, Constant, Phi, Load, Store, Br, BrCond, Param, Call, Return, TakeData, CopyBytes, FillBytes, Copy, Trap}
 use Rattle.gmir.specs.declared.code.GInst.{GInst}
 use Rattle.gmir.specs.declared.code.GFunction.{GFunction}
-use Rattle.gmir.specs.Play.{by, op_weight, is_legal, weight, Kind, Computes, Divides, Other, kind, State, reg_width, use_at, operand, plain, moving, copied_from, copied_to, copied, filled_to, filled, branch, take_edge, other, by_kind, step_at, step, walker}
+use Rattle.gmir.specs.Play.{by, op_weight, is_legal, weight, Kind, Computes, Divides, Other, kind, State, reg_width, use_at, operand, plain, moving, copied_from, copied_to, copied, filled_to, filled, branch, take_edge, other, by_kind, step_at, walker}
 
 by-one : (legal : Bool) (m n : ℕ) → 1 ≤ m → 1 ≤ n → 1 ≤ by legal m n
 by-one true m n h k = h

@@ -1,13 +1,12 @@
 -- A function refines itself, and refinement composes.
-use Rattle.std.proofs.Common.{◌≡◌, refl, sym, ap, subst, ◌∙◌, ℕ, ◌+◌, ◌*◌, ◌≤◌, Bool, true, false, List, [], ◌∷◌, Option, Some, None, arith}
-use Rattle.std.specs.Prelude.{IsTrue, nat_lt, if◌then◌else◌}
+use Rattle.std.proofs.Common.{◌≡◌, refl, sym, ap, subst, ◌∙◌, ℕ, ◌+◌, Bool, true, false, List, [], ◌∷◌, Option, Some, None, arith}
+use Rattle.std.specs.Prelude.{nat_lt, if◌then◌else◌}
 use Rattle.ir_meaning.specs.Memory.{Memory}
-use Rattle.ir_meaning.specs.Step.{Program, stack_start}
-use Rattle.ir_meaning.specs.Walk.{Entry, Opens, TooDeep}
-use Rattle.ir_meaning.specs.Walk as walk
+use Rattle.ir_meaning.specs.Step.{stack_start}
+use Rattle.ir_meaning.specs.Walk.{Opens, TooDeep}
 use Rattle.walks.specs.Bits.{Bits, cut}
-use Rattle.walks.specs.Ends.{At, step_at, EntryOf}
-use Rattle.walks.specs.Refines.{RefinesBits, RefinesMemory, RefinesEntry, RefinesPlay}
+use Rattle.walks.specs.Ends.{EntryOf}
+use Rattle.walks.specs.Refines.{RefinesBits, RefinesEntry, RefinesPlay}
 use Rattle.walks.specs.Simulation.{Follows, breaks, EntersAs, Simulation}
 use Rattle.walks.specs.IrBits.{bit_walker}
 use Rattle.walks.proofs.Simulate.{simulated}
@@ -17,11 +16,10 @@ use Rattle.gmir.specs.declared.code.GInst.{GInst}
 use Rattle.gmir.specs.declared.code.GFunction.{GFunction}
 use Rattle.gmir.specs.Play.{Registers, width, def_at, read, put, on_edge, with_phis, insts_at, phis, State, first, frame_of, entry, entry_weight, walker}
 use Rattle.gmir.specs.Play as play
-use Rattle.gmir.specs.Refines.{Refines, RefinesFunction}
 use Rattle.gmir.specs.Laws.{RefinesItself, RefinementsCompose, StagesCompose}
 use Rattle.gmir.proofs.Monotone.{cut_mono}
 use Rattle.gmir.proofs.Bytes.{as_long}
-use Rattle.gmir.proofs.Lock.{RegsAgree, Agree, ReadsAlive, put_agrees, Alike, EdgesAgree, lock_step}
+use Rattle.gmir.proofs.Lock.{RegsAgree, ReadsAlive, put_agrees, Alike, EdgesAgree, lock_step}
 
 -- each register counts
 abbrev all : ℕ → Bool

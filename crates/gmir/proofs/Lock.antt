@@ -1,16 +1,16 @@
 -- An instruction that stands in two functions does the same in both, from states that agree on the registers that it reads.
-use Rattle.std.proofs.Common.{◌≡◌, refl, sym, ap, subst, ◌∙◌, ℕ, zero, suc, ◌+◌, ◌-◌, ◌*◌, ◌/◌, ◌≤◌, Bool, true, false, List, [], ◌∷◌, ◌++◌, length, take, map, Option, Some, None, arith}
+use Rattle.std.proofs.Common.{◌≡◌, refl, sym, ap, subst, ℕ, zero, suc, ◌+◌, ◌/◌, ◌≤◌, Bool, true, false, List, [], ◌∷◌, ◌++◌, take, map, Option, Some, None, arith}
 use Rattle.std.specs.Prelude.{if◌then◌else◌, nat_le, ◌==◌, ◌&&◌, slice_get, slice_index_or, replicate, IsTrue}
 use Rattle.ir_meaning.specs.Memory.{Memory, data_start, top, is_inside, bytes_at, with_bytes}
 use Rattle.ir_meaning.specs.Walk as walk
 use Rattle.walks.specs.Bits.{Bits, BitReply, free, cut, constant, number}
-use Rattle.walks.specs.Ends.{At, answered_at}
+use Rattle.walks.specs.Ends.{answered_at}
 use Rattle.walks.specs.Refines.{RefinesBits, AllRefine, RefinesMemory, RefinesReply}
 use Rattle.walks.specs.Simulation.{Follows}
 use Rattle.walks.proofs.Compose.{same_memory}
 use Rattle.walks.proofs.Together.{Together, both_go, both_call, both_return, both_overflow, first_breaks, follows_by}
 use Rattle.gmir.specs.declared.code.GOp.{GOp}
-use Rattle.gmir.specs.declared.code.GOp.TheVariants.{Add, Sub, Mul, UDiv, SDiv, URem, SRem, And, Or, Xor, Shl, LShr, AShr, Icmp, Select, Trunc, ZExt, SExt, AnyExt, SExtInReg, PtrToInt, IntToPtr, PtrAdd, Constant, Phi, Load, Store, Br, BrCond, Param, Call, Return, TakeData, CopyBytes, FillBytes, Copy, Trap}
+use Rattle.gmir.specs.declared.code.GOp.TheVariants.{Load, Store, Br, BrCond, Param, Call, Return, TakeData, CopyBytes, FillBytes}
 use Rattle.gmir.specs.declared.code.GInst.{GInst}
 use Rattle.gmir.specs.declared.code.GFunction.{GFunction}
 use Rattle.gmir.specs.Play.{Registers, width, def_at, use_at, read, write, put, Kind, Computes, Divides, Other, kind, State, Does, Step, insts_at, phis, behind_phis, with_phis, jumped, phi_weights, bits_in, bytes_of, plain, go, give, operand, result, divided, take_edge, branch, at_address, grown, moving, copied_from, copied_to, copied, filled_to, filled, returned, other, by_kind, walker}

@@ -1,6 +1,5 @@
 -- When a function of generic machine code refines another, or a function of a module.
 use Rattle.std.specs.Prelude.{◌≡◌, ℕ, ◌+◌, ◌*◌, ◌≤◌, length, sum_by, if◌then◌else◌, List}
-use Rattle.ir_core.specs.declared.program.Function.{Function}
 use Rattle.ir_core.specs.Units.{values}
 use Rattle.ir_meaning.specs.Memory.{data_start}
 use Rattle.ir_meaning.specs.Step.{Program, function_at}

@@ -2,7 +2,6 @@
 use Rattle.std.proofs.Common.{◌≡◌, ◌≢◌, refl, sym, ap, subst, ◌∙◌, ℕ, zero, suc, ◌+◌, ◌-◌, ◌≤◌, List, [], ◌∷◌, Bool, true, false, arith}
 use Rattle.std.specs.Prelude.{nat_lt}
 use Rattle.std.proofs.lemmas.Bool.{ltb-false, le-ltb}
-use Rattle.ir_meaning.specs.Memory.{Memory}
 use Rattle.ir_meaning.specs.Walk.{Walker, Does, Entry, Opens, TooDeep, NoFunction}
 use Rattle.ir_meaning.specs.Walk as walk
 use Rattle.ir_meaning.specs.Play.{EndOf, Calls, Returns, Overflows, NotEnded, Undefined, play, play_on, play_after, play_entry}

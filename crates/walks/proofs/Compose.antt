@@ -1,12 +1,12 @@
 -- Refinement of values and ends is reflexive, and refinement composes.
-use Rattle.std.proofs.Common.{◌≡◌, refl, sym, subst, ◌∙◌, ℕ, ◌*◌, ◌≤◌, List, [], ◌∷◌, Option, Some, None, arith, mul_assoc, mul-le-mul_left}
+use Rattle.std.proofs.Common.{◌≡◌, refl, sym, subst, ℕ, ◌*◌, ◌≤◌, List, [], ◌∷◌, Some, None, arith, mul_assoc, mul-le-mul_left}
 use Rattle.ir_meaning.specs.Value.{Byte}
 use Rattle.ir_meaning.specs.Value as value
 use Rattle.ir_meaning.specs.Memory.{Memory}
 use Rattle.ir_meaning.specs.Play.{EndOf, Calls, Returns, Overflows, NotEnded, Undefined}
 use Rattle.walks.specs.Ends.{EntryOf}
 use Rattle.walks.specs.Bits.{Bits, BitReply, BitWalker}
-use Rattle.walks.specs.Refines.{RefinesBits, AllRefine, RefinesMemory, RefinesReply, AllReply, RefinesEntry, RefinesEnd, as_call, as_return, as_overflow, IsDefined, RefinesPlay}
+use Rattle.walks.specs.Refines.{RefinesBits, AllRefine, RefinesMemory, AllReply, RefinesEntry, RefinesEnd, as_call, as_return, as_overflow, IsDefined, RefinesPlay}
 
 pub same_bits : (a : Bits) → RefinesBits a a
 same_bits a i bit h = h

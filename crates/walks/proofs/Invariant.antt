@@ -1,6 +1,5 @@
 -- A simulation may rest on facts that the first function keeps by itself.
 use Rattle.std.proofs.Common.{subst, ℕ}
-use Rattle.ir_meaning.specs.Walk as walk
 use Rattle.walks.specs.Ends.{At, step_at, answered_at}
 use Rattle.walks.specs.Bits.{BitReply, BitWalker}
 use Rattle.walks.specs.Simulation.{Follows, moves, waits, asks, gives, wants, breaks, KeptBy}

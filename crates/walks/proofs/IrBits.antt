@@ -1,5 +1,5 @@
 -- A module's plays over bits are its plays.
-use Rattle.std.proofs.Common.{◌≡◌, ◌≢◌, refl, sym, ap, subst, ◌∙◌, ℕ, zero, suc, ◌+◌, ◌-◌, ◌%◌, Bool, true, false, ◌^◌, ◌<◌, ◌≤◌, List, [], ◌∷◌, ◌++◌, Option, Some, None, arith, mod-eq_of_lt}
+use Rattle.std.proofs.Common.{◌≡◌, ◌≢◌, refl, sym, ap, subst, ◌∙◌, ℕ, zero, suc, ◌+◌, ◌-◌, Bool, true, false, ◌≤◌, List, [], ◌∷◌, ◌++◌, Option, Some, None, arith, mod-eq_of_lt}
 use Rattle.std.specs.Prelude.{slice_get, map, nat_lt, length, if◌then◌else◌}
 use Rattle.ir_core.specs.declared.types.Ty.{Ty}
 use Rattle.ir_core.specs.declared.types.Ty.TheVariants.{Void, Int, Ptr}
@@ -14,14 +14,14 @@ use Rattle.ir_meaning.specs.Walk.{Walker, Does}
 use Rattle.ir_meaning.specs.Walk as walk
 use Rattle.ir_meaning.specs.Step.{Program, Entry, Opens, TooDeep, NoFunction, step, entry, entry_in, first_values, answered, function_at, walker, stack_start}
 use Rattle.ir_meaning.specs.Play.{EndOf, PlayEnd, Calls, Returns, Overflows, NotEnded, Undefined}
-use Rattle.ir_meaning.specs.Plays.{Meaning, Invocation, play_of}
+use Rattle.ir_meaning.specs.Plays.{Meaning, Invocation}
 use Rattle.ir_meaning.specs.Meaning.{meaning, of_function, result_width, parameter_widths}
-use Rattle.ir_meaning.specs.Ranges.{FitsWidth, FitsResult, AreArgs, IsInvocation, IsReply, IsReplyTo}
+use Rattle.ir_meaning.specs.Ranges.{FitsWidth, FitsResult, AreArgs, IsInvocation, IsReplyTo}
 use Rattle.ir_meaning.specs.Typed.{IsTyped, IsValueType, IsResultType}
 use Rattle.ir_meaning.proofs.Steps.{Stays, step-stays, answered-stays, step-costs}
 use Rattle.ir_meaning.proofs.Bridge.{Arrives, entered, at_step, arrives_next, arrives_behind}
 use Rattle.walks.specs.Ends.{At, step_at, answered_at, Ends, goes, calls, answered as answered_on, returns, overflows, breaks, EntryOf, PlaysTo, opens, too_deep, no_function}
-use Rattle.walks.specs.Bits.{Bits, BitReply, BitWalker, free, constant, number}
+use Rattle.walks.specs.Bits.{Bits, BitReply, BitWalker, free, number}
 use Rattle.walks.specs.IrBits.{bits_of, all_bits, result_bits, values_of, result_value, callee_at, result_of, bit_does, bit_walker, bit_entry, bit_replies, bit_end}
 use Rattle.walks.specs.Laws.{AreTo, PlaysAreBits, BitsArePlays}
 use Rattle.walks.proofs.Budgets.{play_found, plays_within}

@@ -1,5 +1,5 @@
 -- A simulation gives refinement.
-use Rattle.std.proofs.Common.{◌≡◌, refl, sym, ap, subst, ◌∙◌, ℕ, zero, suc, ◌+◌, ◌*◌, ◌<◌, ◌≤◌, List, [], ◌∷◌, arith, ◌⊎◌, inl, inr, mul-add}
+use Rattle.std.proofs.Common.{◌≡◌, refl, sym, subst, ◌∙◌, ℕ, zero, suc, ◌+◌, ◌*◌, ◌<◌, ◌≤◌, List, [], ◌∷◌, arith, ◌⊎◌, inl, inr, mul-add}
 use Rattle.ir_meaning.specs.Memory.{Memory}
 use Rattle.ir_meaning.specs.Walk.{Does, Entry, Opens, TooDeep, NoFunction}
 use Rattle.ir_meaning.specs.Walk as walk

@@ -1,7 +1,7 @@
 -- Two functions that go step by step together.
-use Rattle.std.proofs.Common.{◌≡◌, refl, sym, ap, subst, ◌∙◌, ℕ, ◌+◌, ◌*◌, ◌≤◌, List, arith}
+use Rattle.std.proofs.Common.{◌≡◌, sym, subst, ℕ, ◌*◌, ◌≤◌, List, arith}
 use Rattle.ir_meaning.specs.Memory.{Memory}
-use Rattle.ir_meaning.specs.Walk.{Does, Step, Goes, Calls, Returns, Overflows, Breaks}
+use Rattle.ir_meaning.specs.Walk.{Step, Goes, Calls, Returns, Overflows, Breaks}
 use Rattle.walks.specs.Ends.{At, step_at, answered_at}
 use Rattle.walks.specs.Bits.{Bits, BitReply, BitWalker}
 use Rattle.walks.specs.Refines.{RefinesBits, AllRefine, RefinesMemory, RefinesReply}
