@@ -1,6 +1,6 @@
 // Small modules that passed their check.
 ghost use Rattle.std.specs.Prelude.{◌≡◌, true};
-ghost use Rattle.ir_core.specs.Small.{IsRoom, IsSmallModule, small_program};
+ghost use Rattle.ir_core.specs.Small.{IsRoom, IsSmallModule, IsSmallProgram, small_program};
 
 use crate::program::Module;
 use crate::small::is_small;
@@ -33,6 +33,7 @@ impl Checked {
     pub fn module(&self) -> &Module
         ensures value { result.now ≡ self.now.module_ }
         ensures small { IsSmallModule result.now }
+        ensures whole { IsSmallProgram self.now }
     {
         &self.module
     }

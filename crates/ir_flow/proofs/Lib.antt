@@ -1,0 +1,6 @@
+pub mod Members
+pub mod Spreading
+pub mod Fixpoint
+pub mod Visiting
+pub mod Searched
+pub mod Using

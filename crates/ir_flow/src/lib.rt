@@ -1,0 +1,7 @@
+//! The graph of a function's blocks, and whether each use of a value comes after its definition on every walk.
+#![tactic(auto)]
+
+pub mod assigned;
+pub mod flow;
+pub mod uses;
+pub mod walk;

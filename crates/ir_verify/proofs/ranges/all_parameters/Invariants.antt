@@ -1,0 +1,7 @@
+use Rattle.std.proofs.Common.{◌≡◌, ◌+◌, ◌++◌, ◌≤◌, ◌<◌, ◌⊎◌, ℕ, length, drop, take, map, ◌||◌, ◌&&◌, not, Bool, true, false, if◌then◌else◌}
+use Rattle.ir_verify.specs.Ranges.{all_parameters, all_named, all_below}
+use Rattle.ir_flow.specs.Code.{pair_blocks, case_blocks}
+use Rattle.ir_verify.proofs.ranges.all_parameters.Given as goal
+
+abbrev pub invariant-loop-ty : goal.invariant-loop-ty
+invariant-loop-ty l = all_parameters (drop l.ty-index l.types) ≡ all_parameters l.types

@@ -1,0 +1,8 @@
+pub mod First
+pub mod Limits
+pub mod Shapes
+pub mod Ranges
+pub mod Types
+pub mod Calls
+pub mod Phis
+pub mod Verdict
