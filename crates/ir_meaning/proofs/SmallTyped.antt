@@ -19,7 +19,7 @@ use Rattle.ir_core.specs.Units.{instructions, types_of_arguments}
 use Rattle.ir_core.specs.Small.{are_words, is_small_operand, are_small_arguments, takes, is_small_op, are_small_functions, IsSmallProgram}
 use Rattle.ir_core.proofs.Smalls.{words-at, SmallBinary, small-binary, small-call, small-argument, small-words, AreBefore, returning, Returning, returns-last, OneBlock, SmallFunction, small-at, small-module}
 use Rattle.ir_meaning.specs.Step.{Program, function_at, insts_of, insts_at}
-use Rattle.ir_meaning.specs.Typed.{types, result_types, IsOperand, AreArguments, IsCallee, IsValueType, IsOp, IsTypedFunction, IsTyped}
+use Rattle.ir_meaning.specs.Typed.{types, result_types, IsOperand, AreArguments, IsCallee, IsValueType, IsOp, IsTypedFunction, IsTyped, IsResultType}
 
 -- n values of 64 bits or more
 abbrev Words : List Ty → ℕ → Type 0
@@ -93,6 +93,7 @@ before-words module_ n (inst ∷ body) answer h i below =
   where
     first : Ty → Type 0
     first ty = slice_get (result_types (record { gives = ty; op = inst.op } ∷ (body ++ returning answer ∷ []))) i ≡ Some (Int 64)
+
     at : (i : ℕ) → i < suc (length body) → ((i : ℕ) → i < length body → slice_get (result_types (body ++ returning answer ∷ [])) i ≡ Some (Int 64))
         → slice_get (Int 64 ∷ result_types (body ++ returning answer ∷ [])) i ≡ Some (Int 64)
     at zero below ih = refl
@@ -128,29 +129,36 @@ place-typed program function n (x ∷ body) answer (suc place) inst all ret word
 function-typed : (program : Program) (function : Function)
     → ((callee : ℕ) (f : Function) → function_at program callee ≡ Some f → SmallFunction program.module_ f)
     → SmallFunction program.module_ function → IsTypedFunction program function
-function-typed program function all small = record { params = params; insts = insts }
+function-typed program function all small = record { params = params; ret = subst IsResultType (sym small.ret) (omega arith, omega arith); insts = insts }
   where
     r : Returning program.module_ (length function.params) small.block.insts
     r = returns-last program.module_ small.block.insts (length function.params) small.block.small
+
     one : function.blocks ≡ record { insts = r.body ++ returning r.answer ∷ [] } ∷ []
     one = small.block.one ∙ ap (λ (insts : List Inst). record { insts = insts } ∷ []) r.whole
+
     same : result_types ((r.body ++ returning r.answer ∷ []) ++ []) ≡ result_types (r.body ++ returning r.answer ∷ [])
     same = ap result_types (append-nil (r.body ++ returning r.answer ∷ []))
+
     words : Words (types function) (length function.params + length r.body)
     words =
         subst (λ (blocks : List Block). Words (function.params ++ result_types (instructions blocks)) (length function.params + length r.body)) (sym one)
         (subst (λ (ts : List Ty). Words (function.params ++ ts) (length function.params + length r.body)) (sym same)
         (words-behind function.params (result_types (r.body ++ returning r.answer ∷ [])) (length r.body) small.params
         (before-words program.module_ (length function.params) r.body r.answer r.before)))
+
     inside : (i : ℕ) (ty : Ty) → i < length function.params → slice_get function.params i ≡ Some ty → IsValueType ty
     inside i ty below e =
         let word = words-at function.params small.params i below in
         let same : Int 64 ≡ ty = cc in
         subst IsValueType same (omega arith, omega arith)
+
     outside : (i : ℕ) (ty : Ty) → length function.params ≤ i → slice_get function.params i ≡ Some ty → IsValueType ty
     outside i ty above e = absurd (let none = slice_get_past function.params i above in let bad : ⊥ = cc in bad)
+
     params : (i : ℕ) (ty : Ty) → slice_get function.params i ≡ Some ty → IsValueType ty
     params i ty e = elim (cases_lt i (length function.params)) [ inl below ↦ inside i ty below e | inr above ↦ outside i ty above e ]
+
     insts : (block place : ℕ) (inst : Inst) → slice_get (insts_at function block) place ≡ Some inst → IsOp program function inst.gives inst.op
     insts zero place inst e =
         place-typed program function (length function.params) r.body r.answer place inst all small.ret words r.before r.answers
@@ -163,7 +171,7 @@ pub small-typed : (program : Program) → IsSmallProgram program → IsTyped pro
 small-typed program small =
     let m = small-module program.module_ small.small in
     let all : (symbol : ℕ) (f : Function) → function_at program symbol ≡ Some f → SmallFunction program.module_ f =
-      λ symbol f e. small-at program.module_ program.module_.functions symbol f m.functions e in
+    λ symbol f e. small-at program.module_ program.module_.functions symbol f m.functions e in
     record {
       functions = let few = m.few in omega (arith, few);
       room = small.room.1;

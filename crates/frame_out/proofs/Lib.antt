@@ -1,0 +1,4 @@
+pub mod Settle
+pub mod Values
+pub mod Good
+pub mod Law

@@ -1,0 +1,4 @@
+//! When words run as the play of a function over bits, and what that gives.
+#![tactic(auto)]
+
+pub mod laws;

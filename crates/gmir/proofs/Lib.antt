@@ -1,0 +1,5 @@
+pub mod Monotone
+pub mod Bytes
+pub mod Costs
+pub mod Lock
+pub mod Itself

@@ -1,0 +1,10 @@
+pub mod Budgets
+pub mod Compose
+pub mod Steps
+pub mod Simulate
+pub mod Invariant
+pub mod Taken
+pub mod Numbers
+pub mod Called
+pub mod IrBits
+pub mod Together
