@@ -1,5 +1,5 @@
 -- Words that run as code with labels.
-use Rattle.std.specs.Prelude.{◌≡◌, ◌≢◌, ℕ, zero, suc, ◌+◌, ◌-◌, ◌*◌, ◌/◌, ◌%◌, ◌^◌, ◌≤◌, ◌==◌, ◌&&◌, Bool, if◌then◌else◌, nat_le, List, [], ◌∷◌, length, Option, Some, None, slice_get}
+use Rattle.std.specs.Prelude.{◌≡◌, ◌≢◌, ℕ, zero, suc, ◌+◌, ◌-◌, ◌*◌, ◌/◌, ◌%◌, ◌^◌, ◌<◌, ◌≤◌, ◌==◌, ◌&&◌, Bool, if◌then◌else◌, nat_le, List, [], ◌∷◌, length, Option, Some, None, slice_get}
 use Rattle.rv_core.specs.declared.instr.Instr.{Instr}
 use Rattle.rv_core.specs.declared.step.Stepped.TheVariants as stepped
 use Rattle.rv_core.specs.Step.{Registers, read, after, asks, is_taken}
@@ -54,4 +54,4 @@ pub record StandsAs (code : Code) (words : List ℕ) (base : ℕ) : Type 0 where
 
 -- they do wherever they stand
 abbrev pub RunsAs : Code → List ℕ → Type 0
-RunsAs code words = (base : ℕ) → base % 4 ≡ 0 → base + 4 * length words ≤ 2 ^ 64 → StandsAs code words base
+RunsAs code words = (base : ℕ) → base % 4 ≡ 0 → base + 4 * length words < 2 ^ 64 → StandsAs code words base

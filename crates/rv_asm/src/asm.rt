@@ -3,7 +3,7 @@
 ghost use Rattle.std.specs.Prelude.{◌≡◌, ◌↔◌, IsTrue, ◌≢◌, ◌≤◌, ◌<◌, ◌^◌, ◌++◌, [], ◌∷◌, length, map, IfOk, OnOk, OnErr, Some, None, slice_get, slice_set};
 ghost use Rattle.rj_num.specs.Constant.{words_of_constant};
 ghost use Rattle.rv_core.specs.Instr.{IsValid};
-ghost use Rattle.rv_core.specs.declared.reg.Reg.TheVariants.{X0};
+ghost use Rattle.rv_core.specs.Reg.{number_of};
 ghost use Rattle.rv_asm.specs.declared.item.Item.TheVariants.{Plain, BranchTo, JumpTo};
 ghost use Rattle.rv_asm.specs.Code.{empty, IsSound, IsCode};
 ghost use Rattle.rv_asm.specs.Constant.{const_code, Puts};
@@ -96,7 +96,7 @@ impl Asm {
         ensures added { OnOk result (self.new ≡ record self.old { items = self.old.items ++ map Plain (const_code 3 reg value) }) }
         ensures unchanged { OnErr result (self.new ≡ self.old) }
         ensures words { length (const_code 3 reg value) ≡ words_of_constant value }
-        ensures puts { reg ≢ X0 → Puts (const_code 3 reg value) reg value }
+        ensures puts { number_of reg ≢ 0 → Puts (const_code 3 reg value) reg value }
     {
         let before = self.items.len();
         let done = put_const(&mut self.items, reg, value, 3);
