@@ -108,7 +108,7 @@ arrives words base most s to h k = record { count = k.count; some = k.some; few 
 
 module _ (words : List ℕ) (base : ℕ) where
   one-hop : (s : Registers) (i : Instr) (to : ℕ) → instr_at words base s.pc ≡ Some i → asks s i ≡ stepped.Done → (after s i).pc ≡ to → ((j : ℕ) → j ≢ 31 → (after s i).x j ≡ s.x j) → Hops words base 1 s to
-  one-hop s i to at done there others = record { count = 1; some = omega arith; few = omega arith; last = after s i; run = (i, at, done, refl); there = there; others = others }
+  one-hop s i to at done there others = record { count = 1; some = omega arith; few = omega arith; last = after s i; run = (i, at, done, others, refl); there = there; others = others }
 
   then-hops : (s : Registers) (i : Instr) (most to : ℕ) → instr_at words base s.pc ≡ Some i → asks s i ≡ stepped.Done → ((j : ℕ) → j ≢ 31 → (after s i).x j ≡ s.x j) → Hops words base most (after s i) to → Hops words base (suc most) s to
   then-hops s i most to at done others h = record {
@@ -116,7 +116,7 @@ module _ (words : List ℕ) (base : ℕ) where
     some = omega arith;
     few = omega (arith, h.few);
     last = h.last;
-    run = (i, at, done, h.run);
+    run = (i, at, done, others, h.run);
     there = h.there;
     others = λ j k. h.others j k ∙ others j k;
   }

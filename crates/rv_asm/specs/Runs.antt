@@ -17,10 +17,10 @@ abbrev pub instr_at : List ℕ → ℕ → ℕ → Option Instr
 instr_at words base pc =
     spelled (if (nat_le base pc) && ((pc - base) % 4 == 0) then slice_get words ((pc - base) / 4) else None)
 
--- n instructions, none of which asks anything of the machine, lead from these registers to those
+-- n instructions, none of which asks anything of the machine or changes a register but t6, lead from these registers to those
 abbrev pub Runs : List ℕ → ℕ → ℕ → Registers → Registers → Type 0
 Runs words base zero s t = s ≡ t
-Runs words base (suc n) s t = (i : Instr) × (instr_at words base s.pc ≡ Some i) × (asks s i ≡ stepped.Done) × Runs words base n (after s i) t
+Runs words base (suc n) s t = (i : Instr) × (instr_at words base s.pc ≡ Some i) × (asks s i ≡ stepped.Done) × ((j : ℕ) → j ≢ 31 → (after s i).x j ≡ s.x j) × Runs words base n (after s i) t
 
 -- one to three instructions lead to an address, and change no register but t6
 pub record Arrives (words : List ℕ) (base : ℕ) (s : Registers) (to : ℕ) : Type 0 where
