@@ -1,5 +1,5 @@
 -- The instructions of code with labels. Places are counted in words from the first.
-use Rattle.std.specs.Prelude.{◌≡◌, ℕ, ◌+◌, ◌-◌, ◌*◌, ◌/◌, ◌%◌, ◌^◌, ℤ, pos, negsuc, Bool, true, if◌then◌else◌, nat_lt, nat_le, List, [], ◌∷◌, ◌++◌, map, length, Option, slice_index_or}
+use Rattle.std.specs.Prelude.{◌≡◌, ℕ, ◌+◌, ◌-◌, ◌*◌, ◌/◌, ◌%◌, ◌^◌, ℤ, pos, negsuc, Bool, true, if◌then◌else◌, nat_lt, nat_le, List, [], ◌∷◌, ◌++◌, map, length, Option, slice_index}
 use Rattle.rv_core.specs.declared.reg.Reg.{Reg}
 use Rattle.rv_core.specs.declared.reg.Reg.TheVariants.{X0, T6}
 use Rattle.rv_core.specs.declared.instr.BranchOp.{BranchOp}
@@ -79,7 +79,7 @@ places_from place (x ∷ xs) = place ∷ places_from (place + size x.form x.item
 
 -- the place to which an item leads
 abbrev pub goes_to : List (Option ℕ) → List ℕ → Item → ℕ
-goes_to bound places item = slice_index_or places (leads_to bound item) 0
+goes_to bound places item = slice_index places (leads_to bound item)
 
 -- the instructions of items from a place on
 abbrev pub laid : (Item → ℕ) → ℕ → List Formed → List Instr
@@ -103,7 +103,7 @@ pub record IsAssembly (code : Code) (words : List ℕ) : Type 0 where
   pub formed : List Formed
   pub items : map item_of formed ≡ code.items
   pub first : AreFirst (way code.bound formed) 0 formed
-  pub words : words ≡ map word_of (laid (way code.bound formed) 0 formed)
+  pub made : words ≡ map word_of (laid (way code.bound formed) 0 formed)
 
 -- the form's instructions have offsets that reach
 abbrev pub CanJump : Form → ℕ → ℕ → Type 0

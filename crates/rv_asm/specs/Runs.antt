@@ -1,5 +1,5 @@
 -- Words that run as code with labels.
-use Rattle.std.specs.Prelude.{◌≡◌, ◌≢◌, ℕ, zero, suc, ◌+◌, ◌-◌, ◌*◌, ◌/◌, ◌%◌, ◌^◌, ◌≤◌, ◌==◌, ◌&&◌, Bool, if◌then◌else◌, nat_le, List, [], ◌∷◌, length, Option, Some, None, slice_get}
+use Rattle.std.specs.Prelude.{◌≡◌, ◌≢◌, ℕ, zero, suc, ◌+◌, ◌-◌, ◌*◌, ◌/◌, ◌%◌, ◌^◌, ◌<◌, ◌≤◌, ◌==◌, ◌&&◌, Bool, if◌then◌else◌, nat_le, List, [], ◌∷◌, length, Option, Some, None, slice_get}
 use Rattle.rv_core.specs.declared.instr.Instr.{Instr}
 use Rattle.rv_core.specs.declared.step.Stepped.TheVariants as stepped
 use Rattle.rv_core.specs.Step.{Registers, read, after, asks, is_taken}
@@ -17,10 +17,10 @@ abbrev pub instr_at : List ℕ → ℕ → ℕ → Option Instr
 instr_at words base pc =
     spelled (if (nat_le base pc) && ((pc - base) % 4 == 0) then slice_get words ((pc - base) / 4) else None)
 
--- n instructions, none of which asks anything of the machine, lead from these registers to those
+-- n instructions, none of which asks anything of the machine or changes a register but t6, lead from these registers to those
 abbrev pub Runs : List ℕ → ℕ → ℕ → Registers → Registers → Type 0
 Runs words base zero s t = s ≡ t
-Runs words base (suc n) s t = (i : Instr) × (instr_at words base s.pc ≡ Some i) × (asks s i ≡ stepped.Done) × Runs words base n (after s i) t
+Runs words base (suc n) s t = (i : Instr) × (instr_at words base s.pc ≡ Some i) × (asks s i ≡ stepped.Done) × ((j : ℕ) → j ≢ 31 → (after s i).x j ≡ s.x j) × Runs words base n (after s i) t
 
 -- one to three instructions lead to an address, and change no register but t6
 pub record Arrives (words : List ℕ) (base : ℕ) (s : Registers) (to : ℕ) : Type 0 where
@@ -54,4 +54,4 @@ pub record StandsAs (code : Code) (words : List ℕ) (base : ℕ) : Type 0 where
 
 -- they do wherever they stand
 abbrev pub RunsAs : Code → List ℕ → Type 0
-RunsAs code words = (base : ℕ) → base % 4 ≡ 0 → base + 4 * length words ≤ 2 ^ 64 → StandsAs code words base
+RunsAs code words = (base : ℕ) → base % 4 ≡ 0 → base + 4 * length words < 2 ^ 64 → StandsAs code words base

@@ -3,7 +3,7 @@
 ghost use Rattle.std.specs.Prelude.{◌≡◌, ◌↔◌, IsTrue, ◌≢◌, ◌≤◌, ◌<◌, ◌^◌, ◌++◌, [], ◌∷◌, length, map, IfOk, OnOk, OnErr, Some, None, slice_get, slice_set};
 ghost use Rattle.rj_num.specs.Constant.{words_of_constant};
 ghost use Rattle.rv_core.specs.Instr.{IsValid};
-ghost use Rattle.rv_core.specs.declared.reg.Reg.TheVariants.{X0};
+ghost use Rattle.rv_core.specs.Reg.{number_of};
 ghost use Rattle.rv_asm.specs.declared.item.Item.TheVariants.{Plain, BranchTo, JumpTo};
 ghost use Rattle.rv_asm.specs.Code.{empty, IsSound, IsCode};
 ghost use Rattle.rv_asm.specs.Constant.{const_code, Puts};
@@ -49,7 +49,7 @@ impl Asm {
     }
 
     /// A new label, which stands nowhere yet.
-    pub fn label(&mut self) -> Result<Label, NoMemory>
+    pub fn label(&mut self, _alloc: Global) -> Result<Label, NoMemory>
         ensures number { IfOk result (λ label. label.number ≡ length self.old.bound) }
         ensures added { OnOk result (self.new ≡ record self.old { bound = self.old.bound ++ None ∷ [] }) }
         ensures unchanged { OnErr result (self.new ≡ self.old) }
@@ -83,7 +83,7 @@ impl Asm {
     }
 
     /// Appends an instruction.
-    pub fn push(&mut self, instr: Instr) -> Result<(), NoMemory>
+    pub fn push(&mut self, _alloc: Global, instr: Instr) -> Result<(), NoMemory>
         requires { IsValid instr }
         ensures added { OnOk result (self.new ≡ record self.old { items = self.old.items ++ Plain instr ∷ [] }) }
         ensures unchanged { OnErr result (self.new ≡ self.old) }
@@ -92,11 +92,11 @@ impl Asm {
     }
 
     /// Appends the instructions that load a constant, of which there are as many as the constant takes.
-    pub fn load_const(&mut self, reg: Reg, value: u64) -> Result<(), NoMemory>
+    pub fn load_const(&mut self, _alloc: Global, reg: Reg, value: u64) -> Result<(), NoMemory>
         ensures added { OnOk result (self.new ≡ record self.old { items = self.old.items ++ map Plain (const_code 3 reg value) }) }
         ensures unchanged { OnErr result (self.new ≡ self.old) }
         ensures words { length (const_code 3 reg value) ≡ words_of_constant value }
-        ensures puts { reg ≢ X0 → Puts (const_code 3 reg value) reg value }
+        ensures puts { number_of reg ≢ 0 → Puts (const_code 3 reg value) reg value }
     {
         let before = self.items.len();
         let done = put_const(&mut self.items, reg, value, 3);
@@ -107,7 +107,14 @@ impl Asm {
     }
 
     /// Appends a branch to a label.
-    pub fn branch(&mut self, op: BranchOp, a: Reg, b: Reg, to: Label) -> Result<(), NoMemory>
+    pub fn branch(
+        &mut self,
+        _alloc: Global,
+        op: BranchOp,
+        a: Reg,
+        b: Reg,
+        to: Label,
+    ) -> Result<(), NoMemory>
         ensures added { OnOk result (self.new ≡ record self.old { items = self.old.items ++ BranchTo op a b to.number ∷ [] }) }
         ensures unchanged { OnErr result (self.new ≡ self.old) }
     {
@@ -115,7 +122,7 @@ impl Asm {
     }
 
     /// Appends a jump to a label.
-    pub fn jump(&mut self, to: Label) -> Result<(), NoMemory>
+    pub fn jump(&mut self, _alloc: Global, to: Label) -> Result<(), NoMemory>
         ensures added { OnOk result (self.new ≡ record self.old { items = self.old.items ++ JumpTo to.number ∷ [] }) }
         ensures unchanged { OnErr result (self.new ≡ self.old) }
     {

@@ -1,6 +1,6 @@
 // From items to words: each in the first form that reaches its label.
 
-ghost use Rattle.std.specs.Prelude.{◌≡◌, ◌+◌, ◌*◌, ◌<◌, ◌≤◌, ◌^◌, ℕ, [], ◌∷◌, ◌++◌, map, length, IfOk, OnOk, IsTrue, slice_index, true};
+ghost use Rattle.std.specs.Prelude.{◌≡◌, ◌+◌, ◌*◌, ◌%◌, ◌<◌, ◌≤◌, ◌^◌, ℕ, [], ◌∷◌, ◌++◌, map, length, IfOk, OnOk, IsTrue, slice_index, true};
 ghost use Rattle.rv_core.specs.Instr.{IsValid, IsOffset};
 ghost use Rattle.rv_encode.specs.Spelling.{word_of};
 ghost use Rattle.rv_asm.specs.Code.{IsCode, IsSound, AreSound, target};
@@ -16,7 +16,7 @@ use rv_core::reg::Reg;
 use rv_encode::encode::encode;
 use std::alloc::Global;
 
-// The words of items. All begin short, and an item whose form isn't the first that reaches gets that one, until none is left.
+// The words of items, which run as the items do.
 pub fn words_of_items(
     alloc: Global,
     items: &[Item],
@@ -26,11 +26,22 @@ pub fn words_of_items(
     ensures words { IfOk result (λ words. IsAssembly (record { items = items.now; bound = bound.now }) words.items) }
     ensures runs { IfOk result (λ words. length words.items ≤ 2 ^ 22 → RunsAs (record { items = items.now; bound = bound.now }) words.items) }
 {
+    let words = lay_out(alloc, items, bound)?;
+    Ok(words)
+}
+
+// All begin short, and an item whose form isn't the first that reaches gets that one, until none is left.
+#[tactic(auto, using(crate::proofs::Loops::as_many))]
+fn lay_out(alloc: Global, items: &[Item], bound: &[Option<u32>]) -> Result<Vec<u32>, NoMemory>
+    requires { IsCode items.now }
+    ensures { IfOk result (λ words. IsAssembly (record { items = items.now; bound = bound.now }) words.items) }
+{
     let mut formed = all_short(alloc, items)?;
     for _round in 0..2 * items.len() + 1 {
         let places = places_of(alloc, &formed)?;
         if are_first(&formed, &places, bound) {
-            return emit_items(alloc, &formed, &places, bound);
+            let words = emit_items(alloc, &formed, &places, bound)?;
+            return Ok(words);
         }
         formed = first_forms(alloc, &formed, &places, bound)?;
     }
@@ -57,6 +68,14 @@ fn places_of(alloc: Global, formed: &[Formed]) -> Result<Vec<u32>, NoMemory>
     requires { length formed.now ≤ 2 ^ 29 }
     ensures value { IfOk result (λ places. places.items ≡ places_from 0 formed.now) }
     ensures below { IfOk result (λ places. (k : ℕ) → slice_index places.items k < 2 ^ 31) }
+{
+    let places = list_places(alloc, formed)?;
+    Ok(places)
+}
+
+fn list_places(alloc: Global, formed: &[Formed]) -> Result<Vec<u32>, NoMemory>
+    requires { length formed.now ≤ 2 ^ 29 }
+    ensures { IfOk result (λ places. places.items ≡ places_from 0 formed.now) }
 {
     let mut places = Vec::new(alloc);
     let mut place = 0;

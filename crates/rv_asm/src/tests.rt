@@ -9,10 +9,10 @@ use rv_core::reg::Reg;
 fn a_branch_takes_the_first_form_that_reaches(rt: HostRuntime) -> Result<(), NoMemory> {
     for (between, wanted) in [(1000, 1001), (2000, 2002), (300_000, 300_003)] {
         let mut asm = Asm::new(rt.alloc())?;
-        let over = asm.label()?;
-        asm.branch(BranchOp::Beq, Reg::A0, Reg::A1, over)?;
+        let over = asm.label(rt.alloc())?;
+        asm.branch(rt.alloc(), BranchOp::Beq, Reg::A0, Reg::A1, over)?;
         for _ in 0..between {
-            asm.push(Instr::Imm(ImmOp::Addi, Reg::X0, Reg::X0, 0))?;
+            asm.push(rt.alloc(), Instr::Imm(ImmOp::Addi, Reg::X0, Reg::X0, 0))?;
         }
         assert!(rt; asm.is_free(over));
         asm.bind(over);
@@ -25,14 +25,14 @@ fn a_branch_takes_the_first_form_that_reaches(rt: HostRuntime) -> Result<(), NoM
 #[test]
 fn words_of_a_loop(rt: HostRuntime) -> Result<(), NoMemory> {
     let mut asm = Asm::new(rt.alloc())?;
-    let again = asm.label()?;
-    let out = asm.label()?;
-    asm.load_const(Reg::T0, 0x1234_5678_9abc_def1)?;
+    let again = asm.label(rt.alloc())?;
+    let out = asm.label(rt.alloc())?;
+    asm.load_const(rt.alloc(), Reg::T0, 0x1234_5678_9abc_def1)?;
     assert!(rt; asm.is_free(again));
     asm.bind(again);
-    asm.branch(BranchOp::Beq, Reg::T0, Reg::X0, out)?;
-    asm.push(Instr::Imm(ImmOp::Addi, Reg::T0, Reg::T0, -1))?;
-    asm.jump(again)?;
+    asm.branch(rt.alloc(), BranchOp::Beq, Reg::T0, Reg::X0, out)?;
+    asm.push(rt.alloc(), Instr::Imm(ImmOp::Addi, Reg::T0, Reg::T0, -1))?;
+    asm.jump(rt.alloc(), again)?;
     assert!(rt; asm.is_free(out));
     asm.bind(out);
     let words = asm.finish(rt.alloc())?;
