@@ -1,33 +1,24 @@
 -- Right answers over backed passes.
-use Rattle.std.proofs.Common.{◌≡◌, refl, sym, ap, subst, ◌∙◌, ℕ, ◌+◌, ◌-◌, ◌<◌, ◌≤◌, List, [], ◌∷◌, ◌++◌, length, slice_index, Option, Some, None, arith, ◌⊎◌, inl, inr}
-use Rattle.std.specs.List.{slice_get}
-use Rattle.std.specs.Prelude.{replicate, drop, get_or}
+use Rattle.std.proofs.Common.{◌≡◌, refl, sym, ap, ◌∙◌, ℕ, ◌+◌, ◌-◌, ◌<◌, ◌≤◌, List, [], ◌++◌, length, slice_index, Some, arith, ◌⊎◌, inl, inr}
+use Rattle.std.specs.Prelude.{replicate, drop}
 use Rattle.std.proofs.lemmas.List.{get_or_append_left, get_or-append_right, get_or_past, get_or-replicate}
 use Rattle.std.proofs.lemmas.Option.{slice_get_within}
 use Rattle.std.proofs.lemmas.List.{length-replicate}
 use Rattle.rv_play.proofs.ListedCalls.{backed-is-right}
-use Rattle.ir_meaning.specs.declared.calls.Ended.{Ended}
-use Rattle.ir_meaning.specs.declared.calls.ListedCall.{ListedCall}
 use Rattle.ir_meaning.specs.Memory.{Memory}
-use Rattle.ir_meaning.specs.Step.{Program}
 use Rattle.ir_meaning.specs.Meaning.{meaning}
-use Rattle.ir_meaning.specs.Plays.{Meaning}
-use Rattle.ir_meaning.specs.Right.{RightFrom}
-use Rattle.rv_play.specs.declared.version.Version.{Version}
 use Rattle.rv_play.specs.Machine.{data_base}
-use Rattle.rv_play.specs.Good.{IsBytes, RefinesMemory}
-use Rattle.rv_play.specs.Ending.{Item, Run, ending, start}
-use Rattle.rv_play.specs.Link.{Backed}
-use Rattle.rv_play.specs.ListedCalls.{BackedIsRight, Follows, IsListed}
+use Rattle.rv_play.specs.Good.{RefinesMemory}
+use Rattle.rv_play.specs.Ending.{ending, start}
+use Rattle.rv_play.specs.ListedCalls.{IsListed}
 use Rattle.rv_play.proofs.Runs.{lt_or_le}
-use Rattle.hart.specs.declared.hart.Hart.{Hart}
 use Rattle.hart.specs.declared.hart.Image.{Image}
 use Rattle.hart.specs.Places.{bytes_from}
-use Rattle.hart.specs.Standing.{IsFor, run_of}
-use Rattle.hart.specs.Calls.{EndedOver, HasRoomFor, origin_of, with_image}
-use Rattle.hart.specs.Fixed.{AreVersions, AllGood, Serves, bases_of, code_of}
-use Rattle.hart.specs.Right.{IsImageOf, IsListedOn, AnswersAreRight, FixedPassesAreBacked, FixedAnswersAreRight}
-use Rattle.hart.proofs.Stores.{from_above, from_below}
+use Rattle.hart.specs.Standing.{run_of}
+use Rattle.hart.specs.Calls.{origin_of, with_image}
+use Rattle.hart.specs.Fixed.{code_of}
+use Rattle.hart.specs.Right.{IsImageOf, AnswersAreRight, FixedAnswersAreRight}
+use Rattle.hart.proofs.Stores.{from_above}
 use Rattle.hart.proofs.Laid.{fixed_backed}
 
 zeros_zero : (n i : ℕ) → (i < n) ⊎ (n ≤ i) → slice_index (replicate n 0) i ≡ 0

@@ -1,5 +1,5 @@
 -- A hart and the fabric that serves it, from one wish to the next.
-use Rattle.std.proofs.Common.{◌≡◌, ◌≢◌, refl, sym, ap, subst, ◌∙◌, ℕ, ◌+◌, ◌<◌, ◌≤◌, List, [], ◌∷◌, ◌++◌, length, Option, Some, None, arith}
+use Rattle.std.proofs.Common.{◌≡◌, ◌≢◌, refl, sym, ap, subst, ◌∙◌, ℕ, List, [], ◌∷◌, ◌++◌, Some, arith}
 use Rattle.std.proofs.lemmas.List.{append-nil}
 use Rattle.ir_meaning.specs.Plays.{Meaning}
 use Rattle.ir_meaning.specs.declared.calls.Ended.{Ended}
@@ -11,9 +11,8 @@ use Rattle.hart.specs.declared.hart.Given.{Given}
 use Rattle.hart.specs.declared.hart.Given.TheVariants as given
 use Rattle.hart.specs.declared.hart.Phase.{Phase}
 use Rattle.hart.specs.declared.hart.Phase.TheVariants as phase
-use Rattle.hart.specs.Standing.{IsFor, IsSameCall, IsAsked, IsGiven, IsNext, IsCodeAddress, run_of, rest_of, wanted_by, with_counted, item_of}
-use Rattle.hart.specs.Calls.{Origin, Stands, Both, Asked, Answers, EndedOver, IsQuestion, HasEnded, Knows, ending_from}
-use Rattle.hart.proofs.Turning.{same_then}
+use Rattle.hart.specs.Standing.{IsFor, IsAsked, IsGiven, IsNext, run_of, rest_of, wanted_by, with_counted, item_of}
+use Rattle.hart.specs.Calls.{Origin, Stands, Both, Asked, Answers, IsQuestion, HasEnded, ending_from}
 
 -- what was asked is a wish that the fabric is asked
 pub question : (h : Hart) (symbols code_words : ℕ) (w : Wanted) → IsAsked h w → w ≢ wanted.End → symbols ≡ h.functions → code_words ≡ h.code_words

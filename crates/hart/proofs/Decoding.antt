@@ -1,5 +1,5 @@
 -- What is decoded is what the word reads as.
-use Rattle.std.proofs.Common.{◌≡◌, refl, sym, ◌∙◌, ℕ, ◌^◌, ◌<◌, Option, Some, None, ◌↔◌}
+use Rattle.std.proofs.Common.{◌≡◌, refl, sym, ℕ, ◌^◌, ◌<◌, Option, Some, None, ◌↔◌}
 use Rattle.rv_core.specs.declared.instr.Instr.{Instr}
 use Rattle.rv_encode.specs.Spelling.{Spells}
 use Rattle.rv_encode.specs.Reading.{instr_of}

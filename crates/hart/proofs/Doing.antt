@@ -1,18 +1,18 @@
 -- What an instruction does on a hart: its registers' step, and what it asks.
-use Rattle.std.proofs.Common.{◌≡◌, ◌≢◌, refl, sym, ap, subst, ◌∙◌, ℕ, List, [], ◌∷◌, ◌++◌, Option, Some, None}
+use Rattle.std.proofs.Common.{◌≡◌, ◌≢◌, refl, sym, ap, subst, ◌∙◌, ℕ, List, [], ◌∷◌, None}
 use Rattle.rv_core.specs.declared.reg.Reg.{Reg}
 use Rattle.rv_core.specs.declared.instr.Instr.{Instr}
 use Rattle.rv_core.specs.declared.instr.Instr.TheVariants.{Lui, Auipc, Jal, Jalr, Branch, Load, Store, Imm, Op, Fence, Ecall, Ebreak}
 use Rattle.rv_core.specs.declared.step.Stepped.{Stepped}
-use Rattle.rv_core.specs.Step.{Registers, view, write, after, asks, at_pc}
+use Rattle.rv_core.specs.Step.{Registers, after, asks, at_pc}
 use Rattle.ir_meaning.specs.Plays.{Meaning}
 use Rattle.ir_meaning.specs.declared.calls.Ended.TheVariants as ended
-use Rattle.rv_play.specs.Machine.{Machine, Act, On, Counts, Overflow, Fails, serve, act}
-use Rattle.rv_play.specs.Ending.{Item, Held, Saw, Run, Next, Goes, Ends, Misfit, cell_load, held, after_act, do_instr, do_instr_with}
+use Rattle.rv_play.specs.Machine.{Machine, Act, On, Counts, Overflow, Fails, serve}
+use Rattle.rv_play.specs.Ending.{Item, Held, Saw, Ends, cell_load, held, after_act, do_instr, do_instr_with}
 use Rattle.hart.specs.declared.hart.Hart.{Hart}
 use Rattle.hart.specs.declared.hart.Did.{Did}
 use Rattle.hart.specs.declared.hart.Did.TheVariants as did
-use Rattle.hart.specs.Standing.{IsFor, IsSameCall, IsAllowed, Serves, machine_of, run_of, next_of, cell_given}
+use Rattle.hart.specs.Standing.{Serves, machine_of, next_of, cell_given}
 
 -- a machine after the registers' step of an instruction
 abbrev pub stepped_to : Machine → Instr → Machine

@@ -1,14 +1,14 @@
 -- Versions laid out one after another, and passes that they serve.
-use Rattle.std.proofs.Common.{◌≡◌, ◌≢◌, refl, sym, ap, subst, ◌∙◌, ℕ, zero, suc, ◌+◌, ◌-◌, ◌*◌, ◌/◌, ◌%◌, ◌<◌, ◌≤◌, Bool, true, false, cond, List, [], ◌∷◌, ◌++◌, length, Option, Some, None, arith, length-append}
+use Rattle.std.proofs.Common.{◌≡◌, ◌≢◌, refl, sym, ap, subst, ◌∙◌, ℕ, zero, suc, ◌+◌, ◌-◌, ◌*◌, ◌/◌, ◌<◌, ◌≤◌, true, false, List, [], ◌∷◌, ◌++◌, length, Some, None, arith, length-append}
 use Rattle.std.specs.Prelude.{◌==◌, if◌then◌else◌, Contains, slice_index_or}
 use Rattle.std.specs.List.{slice_get}
 use Rattle.ir_meaning.specs.Plays.{Meaning}
 use Rattle.rv_play.specs.declared.version.Version.{Version}
 use Rattle.rv_play.specs.Machine.{code_base}
-use Rattle.rv_play.specs.Good.{Good, IsBase}
+use Rattle.rv_play.specs.Good.{Good}
 use Rattle.rv_play.specs.Ending.{Item, Held, Saw}
-use Rattle.rv_play.specs.Link.{Agrees, Backs, AreApart, Backed}
-use Rattle.hart.specs.Fixed.{Serves, IsServed, AreVersions, AreInOrder, AllGood, code_of, bases_of}
+use Rattle.rv_play.specs.Link.{Agrees, Backs, Backed}
+use Rattle.hart.specs.Fixed.{Serves, AreVersions, AreInOrder, AllGood, code_of, bases_of}
 use Rattle.hart.proofs.Stores.{pick, pick_no}
 
 pub serves_held : (cells code : List ℕ) (pass : List Item) (symbol base : ℕ) → Serves cells code pass → slice_get cells symbol ≡ Some base

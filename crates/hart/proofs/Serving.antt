@@ -1,6 +1,5 @@
 -- What an instruction asks, served from the lists of bytes.
-use Rattle.std.proofs.Common.{◌≡◌, refl, sym, ap, ◌∙◌, ℕ, ◌+◌, ◌-◌, ◌≤◌, Bool, true, false, cond, List, length, slice_index, Option, Some, None, arith, rules}
-use Rattle.std.specs.Prelude.{nat_le, nat_lt, ◌&&◌}
+use Rattle.std.proofs.Common.{◌≡◌, refl, sym, ap, ◌∙◌, ℕ, ◌-◌, ◌≤◌, Bool, true, false, cond, List, length, slice_index, Some, None, arith}
 use Rattle.rv_core.specs.declared.reg.Reg.{Reg}
 use Rattle.rv_core.specs.declared.instr.LoadOp.{LoadOp}
 use Rattle.rv_core.specs.declared.instr.LoadOp.TheVariants.{Lb, Lh, Lw, Ld, Lbu, Lhu, Lwu}
@@ -9,9 +8,8 @@ use Rattle.rv_core.specs.declared.step.Stepped.TheVariants as stepped
 use Rattle.rv_core.specs.Bytes.{load_bytes, store_bytes}
 use Rattle.rv_core.specs.Step.{Registers, write}
 use Rattle.ir_meaning.specs.Plays.{Meaning}
-use Rattle.rv_play.specs.Machine.{Machine, Act, On, serve, load_size, store_size, extended, loaded, data_base, control_base, in_data, in_control}
+use Rattle.rv_play.specs.Machine.{Machine, On, serve, load_size, store_size, extended, data_base, control_base, in_data, in_control}
 use Rattle.rv_play.specs.Ending.{cell_load}
-use Rattle.hart.specs.declared.map.Found.{Found}
 use Rattle.hart.specs.declared.map.Found.TheVariants.{Bytes, Control, Nowhere}
 use Rattle.hart.specs.Places.{bytes_from, is_within, found_at, symbol_of_cell}
 use Rattle.hart.proofs.Stores.{pick, pick_no, load_from, store_from}

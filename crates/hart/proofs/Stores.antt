@@ -1,11 +1,11 @@
 -- Bytes by address and lists of bytes.
-use Rattle.std.proofs.Common.{◌≡◌, refl, sym, ap, ◌∙◌, ℕ, zero, suc, ◌+◌, ◌-◌, ◌*◌, ◌/◌, ◌%◌, ◌^◌, ◌<◌, ◌≤◌, cond, List, length, slice_index, arith, ◌⊎◌, inl, inr}
+use Rattle.std.proofs.Common.{◌≡◌, refl, sym, ap, ◌∙◌, ℕ, zero, suc, ◌+◌, ◌-◌, ◌*◌, ◌/◌, ◌%◌, ◌^◌, ◌<◌, ◌≤◌, cond, List, slice_index, arith, ◌⊎◌, inl, inr}
 use Rattle.std.specs.Prelude.{nat_le, Bool, true, false}
 use Rattle.std.proofs.Math.Path.{fun_ext}
 use Rattle.std.proofs.Math.Nat.{div-div-eq-div-mul}
 use Rattle.std.proofs.lemmas.Nat.{pow-add}
 use Rattle.rv_core.specs.Bytes.{load_bytes, store_bytes}
-use Rattle.rv_core.proofs.Bytes.{store_inside, store_outside, load_alike}
+use Rattle.rv_core.proofs.Bytes.{store_inside, store_outside}
 use Rattle.rv_play.specs.Good.{IsBytes}
 use Rattle.rv_play.proofs.Runs.{lt_or_le}
 use Rattle.hart.specs.Places.{bytes_from}

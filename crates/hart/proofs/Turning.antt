@@ -1,25 +1,21 @@
 -- From one turn of a hart to the next.
-use Rattle.std.proofs.Common.{◌≡◌, refl, sym, ap, ◌∙◌, subst, ℕ, zero, suc, ◌+◌, ◌-◌, ◌*◌, ◌/◌, ◌%◌, ◌^◌, ◌<◌, ◌≤◌, Bool, true, false, cond, List, [], ◌∷◌, ◌++◌, length, Option, Some, None, arith, mod-eq_of_lt}
+use Rattle.std.proofs.Common.{◌≡◌, refl, sym, ap, ◌∙◌, ℕ, zero, suc, ◌-◌, ◌/◌, ◌%◌, ◌^◌, ◌<◌, ◌≤◌, Bool, true, false, cond, List, ◌∷◌, Option, Some, arith, mod-eq_of_lt}
 use Rattle.std.specs.Prelude.{nat_le, nat_lt, ◌==◌, ◌&&◌}
 use Rattle.std.proofs.Math.Pow.{pow_mono}
 use Rattle.rv_core.specs.declared.reg.Reg.{Reg}
 use Rattle.rv_core.specs.declared.instr.Instr.{Instr}
-use Rattle.rv_core.specs.Step.{view, write, Registers}
+use Rattle.rv_core.specs.Step.{view, write}
 use Rattle.rv_encode.specs.Reading.{instr_of}
 use Rattle.ir_meaning.specs.Plays.{Meaning}
-use Rattle.ir_meaning.specs.declared.calls.Ended.{Ended}
-use Rattle.ir_meaning.specs.declared.calls.Ended.TheVariants as ended
-use Rattle.rv_play.specs.Machine.{Machine, exit_address, stub_base, stub_of}
+use Rattle.rv_play.specs.Machine.{exit_address, stub_base, stub_of}
 use Rattle.rv_play.specs.Ending.{Item, Held, Saw, Run, Next, Goes, Ends, Misfit, at_exit, in_stubs, in_code, stub_instr, do_instr, do_decoded, seen, goes_to, run}
 use Rattle.hart.specs.declared.hart.Hart.{Hart}
 use Rattle.hart.specs.declared.hart.Wanted.{Wanted}
 use Rattle.hart.specs.declared.hart.Did.{Did}
-use Rattle.hart.specs.declared.hart.Did.TheVariants as did
 use Rattle.hart.specs.declared.hart.Phase.{Phase}
 use Rattle.hart.specs.declared.hart.Phase.TheVariants as phase
-use Rattle.hart.specs.declared.map.At.{At}
 use Rattle.hart.specs.declared.map.At.TheVariants.{Exit, Spent, Stub, Code, Nowhere}
-use Rattle.hart.specs.Standing.{IsFor, IsSameCall, IsAllowed, IsAsked, IsCodeAddress, Continues, Waits, Turns, machine_of, run_of, next_of, cell_given, goes_on, rest_of, wanted_by, with_counted, at_of, turns_left}
+use Rattle.hart.specs.Standing.{IsFor, IsSameCall, IsCodeAddress, Waits, machine_of, run_of, next_of, cell_given, goes_on, rest_of, at_of}
 use Rattle.hart.proofs.Stores.{pick, pick_no}
 
 pub wide : (v w : ℕ) → v < 2 ^ 64 → 64 ≤ w → v ≡ v % 2 ^ w

@@ -1,5 +1,5 @@
 -- When the answers of calls on a hart are right.
-use Rattle.std.specs.Prelude.{◌≡◌, ℕ, ◌-◌, ◌<◌, List, [], length, slice_get, slice_index, Some}
+use Rattle.std.specs.Prelude.{◌≡◌, ℕ, ◌-◌, List, [], length, slice_get, slice_index, Some}
 use Rattle.ir_meaning.specs.declared.calls.Ended.{Ended}
 use Rattle.ir_meaning.specs.declared.calls.ListedCall.{ListedCall}
 use Rattle.ir_meaning.specs.Memory.{Memory}

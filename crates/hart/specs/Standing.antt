@@ -1,9 +1,9 @@
 -- What a hart's fields mean: the machine that it is, how its call goes on from there, and the two lists that it stands for since
 -- its start.
-use Rattle.std.specs.Prelude.{◌≡◌, ◌≢◌, ℕ, ◌+◌, ◌-◌, ◌*◌, ◌/◌, ◌%◌, ◌<◌, ◌≤◌, ◌==◌, ◌&&◌, nat_lt, nat_le, if◌then◌else◌, List, [], ◌∷◌, ◌++◌, length, drop, replicate, slice_get, Option, Some, None}
+use Rattle.std.specs.Prelude.{◌≡◌, ℕ, ◌+◌, ◌-◌, ◌*◌, ◌/◌, ◌%◌, ◌<◌, ◌≤◌, ◌==◌, ◌&&◌, nat_lt, nat_le, if◌then◌else◌, List, [], ◌∷◌, ◌++◌, length, slice_get, Option, Some, None}
 use Rattle.rv_core.specs.declared.reg.Reg.{Reg}
 use Rattle.rv_core.specs.declared.step.Stepped.{Stepped}
-use Rattle.rv_core.specs.Step.{view, write, at_pc}
+use Rattle.rv_core.specs.Step.{view, write}
 use Rattle.ir_meaning.specs.declared.calls.Ended.{Ended}
 use Rattle.ir_meaning.specs.declared.calls.Ended.TheVariants as ended
 use Rattle.ir_meaning.specs.Plays.{Meaning}

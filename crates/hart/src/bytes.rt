@@ -6,6 +6,7 @@ ghost use Rattle.rv_play.specs.Machine.{load_size, store_size, extended};
 use rv_core::instr::{LoadOp, StoreOp};
 
 /// The number in one byte.
+#[inline]
 pub fn load_1(bytes: &[u8], place: usize) -> u8
     requires { place + 1 ≤ length bytes.now }
     ensures { result ≡ load_bytes (slice_index bytes.now) place 1 }
@@ -14,6 +15,7 @@ pub fn load_1(bytes: &[u8], place: usize) -> u8
 }
 
 /// The number in two bytes.
+#[inline]
 pub fn load_2(bytes: &[u8], place: usize) -> u16
     requires { place + 2 ≤ length bytes.now }
     ensures { result ≡ load_bytes (slice_index bytes.now) place 2 }
@@ -23,6 +25,7 @@ pub fn load_2(bytes: &[u8], place: usize) -> u16
 }
 
 /// The number in four bytes.
+#[inline]
 pub fn load_4(bytes: &[u8], place: usize) -> u32
     requires { place + 4 ≤ length bytes.now }
     ensures { result ≡ load_bytes (slice_index bytes.now) place 4 }
@@ -32,6 +35,7 @@ pub fn load_4(bytes: &[u8], place: usize) -> u32
 }
 
 /// The number in eight bytes.
+#[inline]
 pub fn load_8(bytes: &[u8], place: usize) -> u64
     requires { place + 8 ≤ length bytes.now }
     ensures { result ≡ load_bytes (slice_index bytes.now) place 8 }
@@ -41,6 +45,7 @@ pub fn load_8(bytes: &[u8], place: usize) -> u64
 }
 
 /// Writes a number's lowest byte.
+#[inline]
 pub fn store_1(bytes: &mut Vec<u8>, place: usize, value: u64)
     requires { place + 1 ≤ length bytes.old.items }
     ensures bytes { slice_index bytes.new.items ≡ store_bytes (slice_index bytes.old.items) place 1 value }
@@ -50,6 +55,7 @@ pub fn store_1(bytes: &mut Vec<u8>, place: usize, value: u64)
 }
 
 /// Writes a number's lowest two bytes.
+#[inline]
 pub fn store_2(bytes: &mut Vec<u8>, place: usize, value: u64)
     requires { place + 2 ≤ length bytes.old.items }
     ensures bytes { slice_index bytes.new.items ≡ store_bytes (slice_index bytes.old.items) place 2 value }
@@ -61,6 +67,7 @@ pub fn store_2(bytes: &mut Vec<u8>, place: usize, value: u64)
 }
 
 /// Writes a number's lowest four bytes.
+#[inline]
 pub fn store_4(bytes: &mut Vec<u8>, place: usize, value: u64)
     requires { place + 4 ≤ length bytes.old.items }
     ensures bytes { slice_index bytes.new.items ≡ store_bytes (slice_index bytes.old.items) place 4 value }
@@ -71,6 +78,7 @@ pub fn store_4(bytes: &mut Vec<u8>, place: usize, value: u64)
 }
 
 /// Writes a number's lowest eight bytes.
+#[inline]
 pub fn store_8(bytes: &mut Vec<u8>, place: usize, value: u64)
     requires { place + 8 ≤ length bytes.old.items }
     ensures bytes { slice_index bytes.new.items ≡ store_bytes (slice_index bytes.old.items) place 8 value }
@@ -81,6 +89,7 @@ pub fn store_8(bytes: &mut Vec<u8>, place: usize, value: u64)
 }
 
 /// How many bytes a load takes.
+#[inline]
 pub fn size_of_load(op: LoadOp) -> u64
     ensures value { result ≡ load_size op }
     ensures small { result ≤ 8 }
@@ -94,6 +103,7 @@ pub fn size_of_load(op: LoadOp) -> u64
 }
 
 /// How many bytes a store takes.
+#[inline]
 pub fn size_of_store(op: StoreOp) -> u64
     ensures value { result ≡ store_size op }
     ensures small { result ≤ 8 }
@@ -108,6 +118,7 @@ pub fn size_of_store(op: StoreOp) -> u64
 
 /// The bytes at a place as a register's value.
 #[tactic(auto, using(rv_core::proofs::Numbers::modulo_fits))]
+#[inline]
 pub fn load_number(op: LoadOp, bytes: &[u8], place: usize) -> u64
     requires { place + load_size op ≤ length bytes.now }
     ensures { result ≡ extended op (load_bytes (slice_index bytes.now) place (load_size op)) }
@@ -124,6 +135,7 @@ pub fn load_number(op: LoadOp, bytes: &[u8], place: usize) -> u64
 }
 
 /// Writes a register's lowest bytes to a place.
+#[inline]
 pub fn store_number(op: StoreOp, bytes: &mut Vec<u8>, place: usize, value: u64)
     requires { place + store_size op ≤ length bytes.old.items }
     ensures bytes { slice_index bytes.new.items ≡ store_bytes (slice_index bytes.old.items) place (store_size op) value }

@@ -16,6 +16,7 @@ use rv_core::step::{Stepped, step_instr};
 
 impl Hart {
     /// Does an instruction, and says what it has led to. A fault leaves the registers as they were.
+    #[inline]
     pub(crate) fn execute(&mut self, instr: Instr) -> Did
         requires { IsValid instr }
         ensures does { (m : Meaning) → IsFor m self.old → (counted : List ℕ) (pass : List Item) → do_instr m (run_of self.old counted pass) instr ≡ next_of self.new counted pass result }
@@ -33,6 +34,7 @@ impl Hart {
     }
 
     // Serves what an instruction asks.
+    #[inline]
     fn serve(&mut self, asked: Stepped) -> Did
         ensures does { (m : Meaning) → IsFor m self.old → Serves m (machine_of self.old) asked (machine_of self.new) result }
         ensures keeps { IsSameCall self.old self.new }
@@ -48,6 +50,7 @@ impl Hart {
         }
     }
 
+    #[inline]
     fn load(&mut self, op: LoadOp, rd: Reg, address: u64) -> Did
         ensures does { (m : Meaning) → IsFor m self.old → Serves m (machine_of self.old) (Stepped.Load op rd address) (machine_of self.new) result }
         ensures keeps { IsSameCall self.old self.new }
@@ -77,6 +80,7 @@ impl Hart {
         }
     }
 
+    #[inline]
     fn store(&mut self, op: StoreOp, value: u64, address: u64) -> Did
         ensures does { (m : Meaning) → IsFor m self.old → Serves m (machine_of self.old) (Stepped.Store op value address) (machine_of self.new) result }
         ensures keeps { IsSameCall self.old self.new }
@@ -102,6 +106,7 @@ impl Hart {
     }
 
     // Counts an entry, or ends the call for want of stack, as t0 says.
+    #[inline]
     fn call(&mut self) -> Did
         ensures does { (m : Meaning) → IsFor m self.old → Serves m (machine_of self.old) Stepped.Call (machine_of self.new) result }
         ensures keeps { IsSameCall self.old self.new }

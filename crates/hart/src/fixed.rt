@@ -94,14 +94,17 @@ impl Fabric for FixedFabric {
         self.begun = true;
     }
 
+    #[inline]
     fn cell(&mut self, symbol: u32) -> u64 {
         self.cells[symbol as usize]
     }
 
+    #[inline]
     fn fetch(&mut self, address: u64) -> u32 {
         self.code[((address - CODE) / 4) as usize]
     }
 
+    #[inline]
     fn count(&mut self, _symbol: u32) {}
 
     fn end(&mut self) {

@@ -1,14 +1,10 @@
 // Words by hand, from the instruction tables of the unprivileged specification of RISC-V.
-ghost use Rattle.std.specs.Prelude.{◌≤◌, length};
+ghost use Rattle.std.specs.Prelude.{◌≡◌, ◌≤◌, length, IfOk};
 ghost use Rattle.hart.specs.Fixed.{AreVersions};
 
 use crate::fabric::Fabric;
 use crate::fixed::FixedFabric;
 use crate::hart::{Hart, Image};
-use ir_core::checked::check_small;
-use ir_core::code::{Block, Inst, Op, Operand};
-use ir_core::program::{Function, Module};
-use ir_core::types::Ty;
 use ir_meaning::calls::{Ended, ListedCall};
 use rv_play::version::Version;
 use sqlite_items::Items;
@@ -42,39 +38,27 @@ fn ended(
     Ok(hart.run_call(&mut fabric, &image, &call))
 }
 
-// A module whose one function returns its parameter.
-fn one_function(alloc: Global) -> Result<Module, AllocError> {
-    let ret = Inst {
-        gives: Ty::Void,
-        op: Op::Ret(Some(Operand::Value(0))),
-    };
-    let block = Block {
-        insts: Items::from_vec(vec![in alloc; ret]?),
-    };
-    let function = Function {
-        name: Items::from_slice(alloc, b"f")?,
-        params: Items::from_slice(alloc, &[Ty::Int(64)])?,
-        ret: Ty::Int(64),
-        blocks: Items::from_vec(vec![in alloc; block]?),
-    };
-    Ok(Module {
-        globals: Items::new(alloc),
-        functions: Items::from_vec(vec![in alloc; function]?),
-    })
-}
-
+// The same for the words of one version of a function of one 64-bit result.
 fn ended_by(rt: &impl Abort, alloc: Global, words: &[u32]) -> Result<Ended, Fail>
     requires { length words.now ≤ 100 }
 {
-    let all = check_small(one_function(alloc)?, 4096).ok_or("small")?;
-    let mut hart = Hart::new(alloc, all.room())?;
-    hart.widths(alloc, &all)?;
+    let mut hart = Hart::new(alloc, 4096)?;
+    hart.know(vec![in alloc; Some(64)]?);
     let version = Version {
         symbol: 0,
         level: 1,
         words: Items::from_slice(alloc, words)?,
     };
-    ended(rt, alloc, &mut hart, vec![in alloc; version]?, 0)
+    let versions = one_version(alloc, version)?;
+    ended(rt, alloc, &mut hart, versions, 0)
+}
+
+fn one_version(alloc: Global, version: Version) -> Result<Vec<Version>, AllocError>
+    requires symbol { version.symbol ≡ 0 }
+    requires words { length version.words ≤ 100 }
+    ensures { IfOk result (λ versions. AreVersions versions.items) }
+{
+    Ok(vec![in alloc; version]?)
 }
 
 #[test]

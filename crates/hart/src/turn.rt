@@ -28,6 +28,7 @@ impl Hart {
         self.advance(given)
     }
 
+    #[inline]
     fn advance(&mut self, given: Given) -> Wanted
         requires { IsGiven self.old.phase given }
         ensures { Turned self.old self.new given result }
@@ -53,6 +54,7 @@ impl Hart {
     }
 
     // Where the instruction at the program counter stands.
+    #[inline]
     fn standing(&self) -> At
         ensures at { result ≡ at_of self.now }
     {
@@ -86,6 +88,7 @@ impl Hart {
     }
 
     // Waits for what an instruction has led to.
+    #[inline]
     fn wait(&mut self, did: Did) -> Wanted
         requires asks { did ≢ Did.On }
         requires allowed { IsAllowed self.old did }
@@ -111,6 +114,7 @@ impl Hart {
     }
 
     // Waits for the end of the call.
+    #[inline]
     fn end(&mut self, ended: Ended) -> Wanted
         ensures phase { self.new.phase ≡ Phase.End ended }
         ensures machine { machine_of self.new ≡ machine_of self.old }
@@ -123,6 +127,7 @@ impl Hart {
 
     // Begins the instruction at the program counter, if one is run. None where it was one of a stub's, and the call goes on
     // behind it.
+    #[inline]
     fn begin_instr(&mut self) -> Option<Wanted>
         ensures { MatchOption result (Continues self.old self.new) (Waits self.old self.new) }
     {
@@ -152,6 +157,7 @@ impl Hart {
     }
 
     // Goes on to where the hart wants something.
+    #[inline]
     fn go_on(&mut self) -> Wanted
         ensures { Waits self.old self.new result }
     {
@@ -163,6 +169,7 @@ impl Hart {
     }
 
     // The word at the program counter has been given.
+    #[inline]
     fn take_word(&mut self, word: u32) -> Wanted
         requires { self.old.phase ≡ Phase.Fetch }
         ensures { Turns self.old self.new (Saw self.old.regs.pc word ∷ []) result }
@@ -177,6 +184,7 @@ impl Hart {
     }
 
     // The base that a symbol's cell holds has been given, for a register.
+    #[inline]
     fn take_base(&mut self, rd: Reg, symbol: u32, base: u64) -> Wanted
         requires { self.old.phase ≡ Phase.Cell rd symbol }
         ensures { Turns self.old self.new (Held symbol base ∷ []) result }

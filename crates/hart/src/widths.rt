@@ -25,7 +25,8 @@ impl Hart {
         Ok(())
     }
 
-    fn know(&mut self, widths: Vec<Option<u32>>)
+    /// Takes the results' widths of at most 1,024 functions.
+    pub(crate) fn know(&mut self, widths: Vec<Option<u32>>)
         requires { length widths.items ≤ 1024 }
         ensures widths { self.new.widths ≡ widths }
         ensures functions { self.new.functions ≡ length widths.items }

@@ -1,4 +1,3 @@
-use Rattle.std.proofs.Common.{arith, length, ◌≤◌}
 use Rattle.hart.proofs.Knowing.{few_functions}
 use Rattle.hart.proofs.widths.functions_of.Goals as goal
 

@@ -1,5 +1,4 @@
-use Rattle.std.proofs.Common.{◌≡◌, ◌≤◌, ap, subst, sym, ◌∙◌, List, length, arith}
-use Rattle.rv_play.specs.declared.version.Version.{Version}
+use Rattle.std.proofs.Common.{◌≡◌, ◌≤◌, ap, ◌∙◌, length, arith}
 use Rattle.hart.specs.Fixed.{code_of}
 use Rattle.hart.proofs.fixed.FixedFabric.new.Goals as goal
 

@@ -1,4 +1,4 @@
-use Rattle.std.proofs.Common.{refl, arith, length}
+use Rattle.std.proofs.Common.{refl, length}
 use Rattle.std.proofs.lemmas.Option.{slice_get_read}
 use Rattle.hart.proofs.Laid.{serves_held}
 use Rattle.hart.proofs.fixed.FixedFabricFabric.cell.Goals as goal

@@ -1,6 +1,5 @@
-use Rattle.std.proofs.Common.{◌≡◌, sym, ap, subst, ◌∙◌, ℕ, List, [], ◌++◌}
+use Rattle.std.proofs.Common.{◌≡◌, sym, subst, ◌∙◌, ℕ, [], ◌++◌}
 use Rattle.ir_meaning.specs.Plays.{Meaning}
-use Rattle.rv_play.specs.Ending.{Item}
 use Rattle.hart.specs.declared.hart.Phase.{Phase}
 use Rattle.hart.specs.declared.hart.Wanted.TheVariants as wanted
 use Rattle.hart.specs.declared.hart.Given.TheVariants as given

@@ -1,4 +1,4 @@
-use Rattle.std.proofs.Common.{refl, ◌≡◌, ◌∙◌, ap, ◌-◌, arith, rules}
+use Rattle.std.proofs.Common.{refl, ◌≡◌, ◌∙◌, ap, ◌-◌, arith}
 use Rattle.hart.specs.declared.hart.Did.{Did}
 use Rattle.hart.specs.Standing.{IsSameCall, goes_on, next_of}
 use Rattle.rv_play.specs.Ending.{goes_to}

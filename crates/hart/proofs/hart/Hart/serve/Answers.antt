@@ -1,6 +1,3 @@
-use Rattle.std.proofs.Common.{sym, subst}
-use Rattle.rv_core.specs.declared.step.Stepped.{Stepped}
-use Rattle.hart.specs.Standing.{Serves, machine_of}
 use Rattle.hart.proofs.hart.Hart.serve.Goals as goal
 
 pub returns-in-Load-clause-does : goal.returns-in-Load-clause-does

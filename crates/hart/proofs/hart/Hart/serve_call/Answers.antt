@@ -1,4 +1,4 @@
-use Rattle.std.proofs.Common.{refl, sym, subst, ◌∙◌}
+use Rattle.std.proofs.Common.{refl, subst, ◌∙◌}
 use Rattle.hart.specs.declared.hart.Phase.{Phase}
 use Rattle.hart.specs.Standing.{IsNext}
 use Rattle.hart.proofs.Turning.{same_then}

@@ -1,4 +1,4 @@
-use Rattle.std.proofs.Common.{◌≡◌, true, ℕ, List}
+use Rattle.std.proofs.Common.{◌≡◌, true}
 use Rattle.hart.specs.declared.hart.Hart.{Hart}
 use Rattle.hart.specs.Standing.{IsSameCall, IsAsked, wanted_by, turns_left}
 use Rattle.hart.specs.Calls.{Origin, Both}

@@ -1,4 +1,4 @@
-use Rattle.std.proofs.Common.{refl, sym, ◌∙◌, rules, arith, length, ◌≡◌}
+use Rattle.std.proofs.Common.{refl, arith, ◌≡◌}
 use Rattle.rv_play.specs.Machine.{store_size}
 use Rattle.hart.specs.Places.{found_at}
 use Rattle.hart.specs.declared.map.Found.TheVariants.{Bytes, Control}

@@ -1,5 +1,4 @@
-use Rattle.std.proofs.Common.{refl, sym, ◌≡◌, ◌∙◌, ap, ◌-◌, arith, rules}
-use Rattle.hart.specs.Standing.{IsSameCall}
+use Rattle.std.proofs.Common.{sym, ◌∙◌, arith}
 use Rattle.hart.proofs.Turning.{word_done, same_then}
 use Rattle.hart.proofs.hart.Hart.take_word.Goals as goal
 
