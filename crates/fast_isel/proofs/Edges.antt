@@ -29,17 +29,14 @@ use Rattle.rv_play.proofs.Lines.{Stands, stands-apart, Goes, goes-then, goes-non
 use Rattle.fast_isel.specs.Small.{IsSmallOperand}
 use Rattle.fast_isel.specs.Code.{operand_code, store_value}
 use Rattle.fast_isel.specs.Blocks.{load_next, store_next, next_code, next_of, nexts_code, phis_code}
+use Rattle.fast_isel.specs.Forms.{IsEdgeOperand}
 use Rattle.fast_isel.specs.Labels.{Hops}
 use Rattle.fast_isel.proofs.Const.{put, write-is}
 use Rattle.fast_isel.proofs.Frame.{Is, Holds, IsScratch, scratch-t0, saved_regs, hold-put, hold-store, stored_point, store-goes, Loaded, operand-loads}
 use Rattle.fast_isel.proofs.Template.{Through}
 use Rattle.fast_isel.proofs.Body.{operand-short}
 
--- an operand that an edge gives a phi
-abbrev pub IsEdgeOperand : ℕ → Operand → Type 0
-IsEdgeOperand n Poison = Unit {0}
-IsEdgeOperand n operand = IsSmallOperand n operand
-
+-- what a phi takes from a block
 abbrev pub IsPhiOperand : ℕ → ℕ → Op → Type 0
 IsPhiOperand n from (Phi pairs) = IsEdgeOperand n (on_edge from pairs)
 IsPhiOperand n from _ = Unit {0}
