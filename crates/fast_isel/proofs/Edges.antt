@@ -230,20 +230,20 @@ module _ (program : Program) (function : Function) (a : Invocation) (s : Machine
         × ((k : ℕ) → phi_value program values from inst.op ≡ Some k → k < 2 ^ 64) × AreReady values (at + 1) insts
 
     -- their next values stand
-    abbrev AreNext : List Value → ℕ → List Inst → Point → Type 0
+    abbrev pub AreNext : List Value → ℕ → List Inst → Point → Type 0
     AreNext values at [] p = Unit {0}
     AreNext values at (inst ∷ insts) p = Is (phi_value program values from inst.op) (next-at p (number_at function to at)) × AreNext values (at + 1) insts p
 
-    record Nexts (values : List Value) (here : Memory) (p : Point) (at : ℕ) (insts : List Inst) : Type 0 where
-      point : Point
-      run : Runs (length (nexts_code function from to at insts)) p point
-      pc : point.machine.regs.pc ≡ p.machine.regs.pc + 4 * length (nexts_code function from to at insts)
-      short : length (nexts_code function from to at insts) ≤ 9 * length insts
-      holds : Held values here point
-      next : AreNext values at insts point
-      lower : (e : ℕ) → e < number_at function to at → next-at point e ≡ next-at p e
+    pub record Nexts (values : List Value) (here : Memory) (p : Point) (at : ℕ) (insts : List Inst) : Type 0 where
+      pub point : Point
+      pub run : Runs (length (nexts_code function from to at insts)) p point
+      pub pc : point.machine.regs.pc ≡ p.machine.regs.pc + 4 * length (nexts_code function from to at insts)
+      pub short : length (nexts_code function from to at insts) ≤ 9 * length insts
+      pub holds : Held values here point
+      pub next : AreNext values at insts point
+      pub lower : (e : ℕ) → e < number_at function to at → next-at point e ≡ next-at p e
 
-    nexts-go : (values : List Value) (here : Memory) (insts : List Inst) (p : Point) (at : ℕ) → AreReady values at insts → Held values here p → Stands place p.machine.regs.pc (nexts_code function from to at insts)
+    pub nexts-go : (values : List Value) (here : Memory) (insts : List Inst) (p : Point) (at : ℕ) → AreReady values at insts → Held values here p → Stands place p.machine.regs.pc (nexts_code function from to at insts)
         → Nexts values here p at insts
     nexts-go values here [] p at ready h st = record {
       point = p;
@@ -284,7 +284,7 @@ module _ (program : Program) (function : Function) (a : Invocation) (s : Machine
     set-result : (at : ℕ) (inst : Inst) (v : Value) (values : List Value) → has_result inst ≡ true → with_result function to at inst v values ≡ slice_set values (number_at function to at) v
     set-result at inst v values e = ap (λ (b : Bool). cond b (slice_set values (number_at function to at) v) values) e
 
-    phis-go : (before : List Value) (here : Memory) (insts : List Inst) (values : List Value) (p : Point) (at : ℕ) → AreReady before at insts → AreNext before at insts p → Held values here p
+    pub phis-go : (before : List Value) (here : Memory) (insts : List Inst) (values : List Value) (p : Point) (at : ℕ) → AreReady before at insts → AreNext before at insts p → Held values here p
         → Stands place p.machine.regs.pc (phis_code function to at insts)
         → Through program a s low frame n m functions room place lowb highb bottom top is-frame (phis_code function to at insts) (with_phis program function from before to at insts values) here p
     phis-go before here [] values p at ready next h st = record {
@@ -344,3 +344,7 @@ module _ (program : Program) (function : Function) (a : Invocation) (s : Machine
     memory' = subst (λ (b : ℕ → ℕ). RefinesMemory here b) (sym hop.bytes) h.memory';
     counted = hop.counted ∙ h.counted;
   }
+
+  -- the next values stand behind a jump
+  pub next-hopped : (from to : ℕ) (values : List Value) (insts : List Inst) (at : ℕ) (p : Point) (target : ℕ) (h : Hops m place p target) → AreNext from to values at insts p → AreNext from to values at insts h.point
+  next-hopped from to values insts at p target h next = next-alike from to values insts at p h.point (λ e. ap (λ (c : ℕ → ℕ). load_bytes c (low + (32 * e + 16)) 8) h.control) next

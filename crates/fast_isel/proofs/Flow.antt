@@ -1,0 +1,375 @@
+-- The code of a function of several blocks does what each step of its play does.
+use Rattle.std.proofs.Common.{◌≡◌, ◌≢◌, refl, sym, ap, subst, ◌∙◌, ℕ, zero, suc, ◌+◌, ◌-◌, ◌*◌, ◌%◌, ◌^◌, ◌<◌, ◌≤◌, inr, List, [], ◌∷◌, ◌++◌, length, Option, Some, None, Bool, true, false, cond, arith, append_assoc, add_assoc}
+use Rattle.std.specs.Prelude.{◌==◌, not, pos, slice_get, slice_set, take, drop, sum_by}
+use Rattle.std.proofs.lemmas.List.{length-append}
+use Rattle.ir_core.specs.declared.types.Ty.{Ty}
+use Rattle.ir_core.specs.declared.types.Ty.TheVariants.{Void, Int, Ptr}
+use Rattle.ir_core.specs.declared.code.Operand.{Operand}
+use Rattle.ir_core.specs.declared.code.Operand.TheVariants.{Value as Local, Num, Null, Place as PlaceOf, Poison}
+use Rattle.ir_core.specs.declared.code.BinOp.{BinOp}
+use Rattle.ir_core.specs.declared.code.Flags.{Flags}
+use Rattle.ir_core.specs.declared.code.Op.{Op}
+use Rattle.ir_core.specs.declared.code.Op.TheVariants.{Binary, Icmp, Cast, Select, Freeze, Phi, Alloca, Load, Store, Gep, Call, BuiltIn as CallBuiltIn, Ret, Br, CondBr, Switch, Unreachable}
+use Rattle.ir_core.specs.declared.code.Inst.{Inst}
+use Rattle.ir_core.specs.declared.program.Function.{Function}
+use Rattle.ir_core.specs.Units.{frame, units, has_result, values as value_count, types_of_arguments}
+use Rattle.rv_core.specs.declared.reg.Reg.{Reg}
+use Rattle.rv_core.specs.declared.reg.Reg.TheVariants.{X0, Ra, Sp, T0, T1, A0}
+use Rattle.rv_core.specs.declared.instr.BranchOp.TheVariants.{Bne}
+use Rattle.rv_core.specs.declared.instr.LoadOp.TheVariants.{Ld}
+use Rattle.rv_core.specs.declared.instr.ImmOp.TheVariants.{Addi}
+use Rattle.rv_core.specs.declared.instr.Instr.{Instr}
+use Rattle.rv_core.specs.declared.instr.Instr.TheVariants.{Imm, Jalr, Load as LoadWord, Op as RegisterOp}
+use Rattle.rv_core.specs.Step.{read, is_taken}
+use Rattle.ir_meaning.specs.declared.activation.Activation.{Activation}
+use Rattle.ir_meaning.specs.Value.{Value, Computed, Gives}
+use Rattle.ir_meaning.specs.Memory.{Memory}
+use Rattle.ir_meaning.specs.Operators.{width, binary}
+use Rattle.ir_meaning.specs.Step.{Program, Does, Step, Goes, Calls, Returns, Overflows, Breaks, step, step_in, step_at, act, behind, computed, give, operand, arguments_of, jump, branch_target, take_edge, on_edge, phis, phi_units, phi_value, function_at, insts_at, number_at, stack_start}
+use Rattle.ir_meaning.specs.Plays.{Invocation}
+use Rattle.ir_meaning.specs.Meaning.{meaning, result_width, of_function}
+use Rattle.ir_meaning.specs.Ranges.{FitsWidth, IsInvocation}
+use Rattle.ir_meaning.specs.Typed.{types, IsTyped, IsTypedFunction, IsOp, IsValueType, ArePairs, IsOperand}
+use Rattle.ir_meaning.proofs.Keeping.{DoesFit, operand-fits}
+use Rattle.ir_meaning.proofs.Ranges.{Standing, gives-of, does-fit, keeps-goes}
+use Rattle.rv_play.specs.Machine.{Machine, control_base, control_end}
+use Rattle.rv_play.specs.CodePlay.{Place, Point, CodeReply, code_run, place_of}
+use Rattle.rv_play.specs.CodePlay as code
+use Rattle.rv_play.specs.Good.{IsBase, Enters, RefinesResult}
+use Rattle.rv_play.proofs.Lines.{Stands, stands-apart, goes-then}
+use Rattle.fast_isel.specs.Small.{IsPlain, IsSmallOperand}
+use Rattle.fast_isel.specs.Code.{register_op, operand_code, op_code, epilogue, store_value}
+use Rattle.fast_isel.specs.Blocks.{Item, Goto, Test, Bind, plain, nexts_code, phis_code, block_label, edge_label, edge_items, op_items, insts_items, block_items}
+use Rattle.fast_isel.specs.Labels.{Hops, StandsAs}
+use Rattle.fast_isel.specs.Forms.{IsForm, IsFlow, IsEdgeOperand, AreEdgeOperands}
+use Rattle.fast_isel.proofs.Const.{put}
+use Rattle.fast_isel.proofs.Frame.{Is, Holds, scratch-t0, hold-put, Loaded, operand-loads}
+use Rattle.fast_isel.proofs.Template.{plain_value, plain-gives, plain-below, binary-goes}
+use Rattle.fast_isel.proofs.Body.{operand-short, refines-take, result-refines}
+use Rattle.fast_isel.proofs.Ends.{epilogue-returns}
+use Rattle.fast_isel.proofs.Labelled.{plain-apart, behind-items}
+use Rattle.fast_isel.proofs.Edges.{IsPhiOperand, AreReady, nexts-go, phis-go, hold-hopped, next-hopped, phis-length, units-many}
+use Rattle.fast_isel.proofs.Numbers.{number-inside, number-next, value-below, gives-some, drop-get, IsPhi, phis-stand}
+use Rattle.fast_isel.proofs.Simulation.{Onward, Stopped, Advances}
+
+units-some : (inst : Inst) → 1 ≤ units inst
+units-some inst = omega arith
+
+-- an operand that a phi takes from a block is one of its operands, or poison
+edge-operand : (n from : ℕ) (pairs : List (Operand × ℕ)) → AreEdgeOperands n pairs → IsEdgeOperand n (on_edge from pairs)
+edge-operand n from [] h = tt
+edge-operand n from (pair ∷ pairs) h = by_test (pair.1 == from) (edge-operand n from pairs h.1)
+  where
+    by_test : (b : Bool) → IsEdgeOperand n (on_edge from pairs) → IsEdgeOperand n (cond b pair.0 (on_edge from pairs))
+    by_test true rest = h.0
+    by_test false rest = rest
+
+edge-typed : (tys : List Ty) (blocks from : ℕ) (ty : Ty) (pairs : List (Operand × ℕ)) → ArePairs tys blocks ty pairs → IsOperand tys ty (on_edge from pairs)
+edge-typed tys blocks from ty [] h = tt
+edge-typed tys blocks from ty (pair ∷ pairs) h = by_test (pair.1 == from) (edge-typed tys blocks from ty pairs h.2)
+  where
+    by_test : (b : Bool) → IsOperand tys ty (on_edge from pairs) → IsOperand tys ty (cond b pair.0 (on_edge from pairs))
+    by_test true rest = h.0
+    by_test false rest = rest
+
+module _ (program : Program) (typed : IsTyped program) (function : Function) (flow : IsFlow function) (a : Invocation) (is : IsInvocation (meaning program) a) (there : function_at program a.symbol ≡ Some function)
+    (s : Machine) (words : List ℕ) (base : ℕ) (stands : IsBase words base) (enters : Enters (meaning program) a s) (fits-frame : stack_start + frame function ≤ a.sp) (labels : ℕ → ℕ) (aligned : (label : ℕ) → labels label % 4 ≡ 0)
+    (placed : (block : ℕ) → block < length function.blocks → (more : List Item) × StandsAs (meaning program) (place_of words base s) labels (labels (block_label block)) (block_items function (frame function) block ++ more)) where
+  abbrev n : ℕ
+  n = value_count function
+
+  abbrev fr : ℕ
+  fr = 128 + 32 * n
+
+  abbrev low : ℕ
+  low = a.sp - fr
+
+  abbrev place : Place
+  place = place_of words base s
+
+  abbrev Stood : Activation → Memory → Type 0
+  Stood = Standing program typed a is function there
+
+  abbrev Held : List Value → Memory → Point → Type 0
+  Held = Holds a s low fr
+
+  abbrev At : ℕ → List Item → Type 0
+  At = StandsAs (meaning program) place labels
+
+  bottom : control_base ≤ low
+  bottom = let h = fits-frame in omega (arith, h)
+
+  sum-is : low + fr ≡ a.sp
+  sum-is = let h = fits-frame in omega (arith, h)
+
+  top : low + fr ≤ control_end
+  top = let e = sum-is in let h = is.sp_high in omega (arith, e, h)
+
+  entering : place.sp ≡ low + fr
+  entering = enters.sp ∙ sym sum-is
+
+  -- the code stands for a state of the play
+  pub record Here (now : Activation) (here : Memory) (p : Point) : Type 0 where
+    pub stood : Stood now here
+    pub long : length here ≡ length a.memory
+    pub held : Held now.values here p
+    pub even : p.machine.regs.pc % 4 ≡ 0
+    pub rest : List Item
+    pub code : At p.machine.regs.pc (insts_items function fr now.block now.place (drop now.place (insts_at function now.block)) ++ rest)
+
+  abbrev Done : ℕ → Activation → Memory → Point → Does → Type 0
+  Done = Advances program a s place Here
+
+  -- ---- the instruction at a state
+
+  is-function : (now : Activation) (here : Memory) → Stood now here → function_at program now.symbol ≡ Some function
+  is-function now here h = ap (function_at program) h.symbol ∙ there
+
+  step-is : (now : Activation) (here : Memory) (o : Option Inst) → Stood now here → slice_get (insts_at function now.block) now.place ≡ o → step program now here ≡ step_at program now here function o
+  step-is now here o h at = ap (step_in program now here) (is-function now here h) ∙ ap (step_at program now here function) at
+
+  typed-at : (block k : ℕ) (inst : Inst) → slice_get (insts_at function block) k ≡ Some inst → IsOp program function inst.gives inst.op
+  typed-at block k inst at = (typed.typed a.symbol function there).insts block k inst at
+
+  -- what stands behind an instruction
+  abbrev behind_it : Activation → List Item → List Item
+  behind_it now rest = insts_items function fr now.block (now.place + 1) (drop (now.place + 1) (insts_at function now.block)) ++ rest
+
+  code-at : (now : Activation) (here : Memory) (p : Point) (inst : Inst) (h : Here now here p) → slice_get (insts_at function now.block) now.place ≡ Some inst
+      → At p.machine.regs.pc (op_items function fr now.block now.place inst.op ++ behind_it now h.rest)
+  code-at now here p inst h at =
+      subst (λ (items : List Item). At p.machine.regs.pc items) (append_assoc (op_items function fr now.block now.place inst.op) (insts_items function fr now.block (now.place + 1) (drop (now.place + 1) (insts_at function now.block))) h.rest)
+      (subst (λ (insts : List Inst). At p.machine.regs.pc (insts_items function fr now.block now.place insts ++ h.rest)) (drop-get (insts_at function now.block) now.place inst at) h.code)
+
+  -- ---- an operation
+
+  binary-step : (now : Activation) (here : Memory) (p : Point) (op : BinOp) (flags : Flags) (x y : Operand) → Here now here p
+      → slice_get (insts_at function now.block) now.place ≡ Some (record { gives = Int 64; op = Binary op flags x y }) → IsPlain op → IsSmallOperand n x → IsSmallOperand n y
+      → Done (units (record { gives = Int 64; op = Binary op flags x y })) now here p (act program function now here (record { gives = Int 64; op = Binary op flags x y }) (Binary op flags x y)).does
+  binary-step now here p op flags x y h at plain' sx sy =
+      let inst : Inst = record { gives = Int 64; op = Binary op flags x y } in
+      let d = number_at function now.block now.place in
+      let values = now.values in
+      let value : Value = plain_value op flags (operand program values x) (operand program values y) in
+      let gives-it = plain-gives op flags (operand program values x) (operand program values y) plain' in
+      let next : Activation = behind function now inst value in
+      let does : (step program now here).does ≡ Goes next here = ap (λ (st : Step). st.does) (step-is now here (Some inst) h.stood at) ∙ ap (λ (c : Computed). computed (give program function now here inst) c) gives-it in
+      let ty = typed-at now.block now.place inst at in
+      let c0 : List Instr = op_code (Binary op flags x y) d in
+      let parts = plain-apart (meaning program) place labels p.machine.regs.pc c0 (behind_it now h.rest) (code-at now here p inst h at) in
+      let fx = value-below (Int 64) (operand program values x) ty.0 (operand-fits program (types function) values (Int 64) x h.stood.values ty.1) in
+      let fy = value-below (Int 64) (operand program values y) ty.0 (operand-fits program (types function) values (Int 64) y h.stood.values ty.2) in
+      let inside = number-inside function now.block now.place inst at refl in
+      let t = binary-goes program a s low fr n (meaning program) typed.functions typed.room place stands.low stands.high bottom top refl op flags x y values here p d plain' sx sy inside fx fy
+          (plain-below op flags (operand program values x) (operand program values y) plain' fx fy) h.held parts.0 in
+      let ox = operand-short n T0 x sx in
+      let oy = operand-short n T1 y sy in
+      let l0 = length-append (operand_code T0 x) (operand_code T1 y ++ RegisterOp (register_op op) T0 T0 T1 ∷ store_value T0 d ∷ []) in
+      let l1 = length-append (operand_code T1 y) (RegisterOp (register_op op) T0 T0 T1 ∷ store_value T0 d ∷ []) in
+      let cost = units-some inst in
+      let pc = t.pc in
+      let even = h.even in
+      subst (λ (c : Computed). Done (units inst) now here p (computed (give program function now here inst) c)) (sym gives-it) (record {
+        count = length c0;
+        point = t.point;
+        some = omega (arith, l0, l1);
+        few = omega (arith, ox, oy, l0, l1, cost);
+        run = t.run;
+        at = record {
+          stood = keeps-goes program typed a is function there now next here here h.stood does;
+          long = h.long;
+          held = t.holds;
+          even = omega (arith, pc, even);
+          rest = h.rest;
+          code = subst (λ (q : ℕ). At q (behind_it now h.rest)) (sym pc) parts.1;
+        };
+      })
+
+  -- ---- a return
+
+  ret-step : (now : Activation) (here : Memory) (p : Point) (gives : Ty) (answer : Operand) → Here now here p
+      → slice_get (insts_at function now.block) now.place ≡ Some (record { gives = gives; op = Ret (Some answer) }) → IsSmallOperand n answer
+      → Done (units (record { gives = gives; op = Ret (Some answer) })) now here p (act program function now here (record { gives = gives; op = Ret (Some answer) }) (Ret (Some answer))).does
+  ret-step now here p gives answer h at small =
+      let inst : Inst = record { gives = gives; op = Ret (Some answer) } in
+      let values = now.values in
+      let regs = enters.regs in
+      let parts = plain-apart (meaning program) place labels p.machine.regs.pc (epilogue answer fr) (behind_it now h.rest) (code-at now here p inst h at) in
+      let e = epilogue-returns program a s low fr n (meaning program) typed.functions typed.room place stands.low stands.high bottom top refl entering refl enters.ra.0 (regs 1) values here p answer small h.held parts.0 in
+      let does : (step program now here).does ≡ Returns (operand program values answer) (take now.entry_length here) = ap (λ (st : Step). st.does) (step-is now here (Some inst) h.stood at) in
+      let fit : DoesFit program function (gives-of program typed a is function there now) (Returns (operand program values answer) (take now.entry_length here)) =
+          subst (DoesFit program function (gives-of program typed a is function there now)) does (does-fit program typed a is function there now here h.stood) in
+      let r = e.is in
+      let op = operand-short n A0 answer small in
+      let len = length-append (operand_code A0 answer) (LoadWord Ld Ra Sp (pos (fr - 8)) ∷ Imm Addi Sp Sp (pos fr) ∷ Jalr X0 Ra (pos 0) ∷ []) in
+      let cost = units-some inst in
+      record {
+        count = length (epilogue answer fr);
+        point = e.point;
+        few = omega (arith, op, len, cost);
+        run = e.runs;
+        is = record {
+          counted = r.counted;
+          control = λ x le. r.control x (let z = sum-is in omega (arith, z, le));
+          regs = (r.sp-is ∙ sum-is ∙ sym enters.sp, r.saved);
+          result =
+              subst (λ (g : Option Function). RefinesResult (of_function None (λ (f : Function). result_width f.ret) g) (operand program values answer) e.point.machine.regs) (sym there)
+              (result-refines function.ret (operand program values answer) e.point.machine.regs r.answer fit.0);
+          memory' = λ i b z. r.memory' i b (refines-take now.entry_length here i b z);
+        };
+      }
+
+  -- ---- an edge
+
+  abbrev heads : ℕ → List Inst
+  heads to = phis (insts_at function to)
+
+  -- the phis of a block are ready for an edge
+  ready-from : (now : Activation) (here : Memory) (to : ℕ) → Stood now here → (insts : List Inst) (k : ℕ) → ((i : ℕ) (inst : Inst) → slice_get insts i ≡ Some inst → slice_get (heads to) (k + i) ≡ Some inst)
+      → AreReady program function a s low fr n (meaning program) typed.functions typed.room place stands.low stands.high bottom top refl now.block to now.values k insts
+  ready-from now here to h [] k suffix = tt
+  ready-from now here to h (inst ∷ insts) k suffix =
+      let at = phis-stand (insts_at function to) k inst (ap (λ (j : ℕ). slice_get (heads to) j) (let z : k ≡ k + 0 = omega arith in z) ∙ suffix 0 inst refl) in
+      let some = phi-typed inst.op (typed-at to k inst at.0) at.1 in
+      let result = gives-some inst.gives some.0 in (
+        number-inside function to k inst at.0 result,
+        number-next function to k inst at.0 result,
+        result,
+        phi-form inst.op (flow.forms to k inst at.0) at.1,
+        value-below inst.gives (phi_value program now.values now.block inst.op) some.0 some.1,
+        ready-from now here to h insts (k + 1) (λ i x e. ap (λ (j : ℕ). slice_get (heads to) j) (let z : k + 1 + i ≡ k + suc i = omega arith in z) ∙ suffix (suc i) x e),
+      )
+    where
+      phi-typed : (op : Op) → IsOp program function inst.gives op → IsPhi op → IsValueType inst.gives × FitsWidth (width inst.gives) (phi_value program now.values now.block op)
+      phi-typed (Phi pairs) ty is-phi = (ty.0, operand-fits program (types function) now.values inst.gives (on_edge now.block pairs) h.values (edge-typed (types function) (length function.blocks) now.block inst.gives pairs ty.1))
+      phi-typed (Binary op flags x y) ty is-phi = absurd is-phi
+      phi-typed (Icmp pred flags of x y) ty is-phi = absurd is-phi
+      phi-typed (Cast op flags of x) ty is-phi = absurd is-phi
+      phi-typed (Select c x y) ty is-phi = absurd is-phi
+      phi-typed (Freeze x) ty is-phi = absurd is-phi
+      phi-typed (Alloca of count) ty is-phi = absurd is-phi
+      phi-typed (Load x) ty is-phi = absurd is-phi
+      phi-typed (Store of x y) ty is-phi = absurd is-phi
+      phi-typed (Gep of x indices) ty is-phi = absurd is-phi
+      phi-typed (Call g arguments) ty is-phi = absurd is-phi
+      phi-typed (CallBuiltIn which arguments) ty is-phi = absurd is-phi
+      phi-typed (Ret x) ty is-phi = absurd is-phi
+      phi-typed (Br x) ty is-phi = absurd is-phi
+      phi-typed (CondBr c x y) ty is-phi = absurd is-phi
+      phi-typed (Switch of x otherwise cases) ty is-phi = absurd is-phi
+      phi-typed Unreachable ty is-phi = absurd is-phi
+      phi-form : (op : Op) → IsForm n inst.gives op → IsPhi op → IsPhiOperand n now.block op
+      phi-form (Phi pairs) form is-phi = edge-operand n now.block pairs form
+      phi-form (Binary op flags x y) form is-phi = tt
+      phi-form (Icmp pred flags of x y) form is-phi = tt
+      phi-form (Cast op flags of x) form is-phi = tt
+      phi-form (Select c x y) form is-phi = tt
+      phi-form (Freeze x) form is-phi = tt
+      phi-form (Alloca of count) form is-phi = tt
+      phi-form (Load x) form is-phi = tt
+      phi-form (Store of x y) form is-phi = tt
+      phi-form (Gep of x indices) form is-phi = tt
+      phi-form (Call g arguments) form is-phi = tt
+      phi-form (CallBuiltIn which arguments) form is-phi = tt
+      phi-form (Ret x) form is-phi = tt
+      phi-form (Br x) form is-phi = tt
+      phi-form (CondBr c x y) form is-phi = tt
+      phi-form (Switch of x otherwise cases) form is-phi = tt
+      phi-form Unreachable form is-phi = tt
+
+  -- an edge is taken from a point that a few instructions lead to
+  edge-step : (now : Activation) (here : Memory) (p q : Point) (few u to : ℕ) (more : List Item) → Stood now here → length here ≡ length a.memory → Held now.values here q → few ≤ 16 → 1 ≤ u
+      → ((f : ℕ) (answers : List CodeReply) → code_run (meaning program) place (few + f) p answers ≡ code_run (meaning program) place f q answers) → q.machine.regs.pc % 4 ≡ 0
+      → At q.machine.regs.pc (edge_items function now.block to ++ more) → to < length function.blocks → (step program now here).does ≡ Goes (jump program function now to) here
+      → Onward program a s place Here (u + phi_units function to) (jump program function now to) here p
+  edge-step now here p q few u to more stood long held short one run even st exists does =
+      let c0 = nexts_code function now.block to 0 (heads to) in
+      let c1 = phis_code function to 0 (heads to) in
+      let split = subst (λ (items : List Item). At q.machine.regs.pc items) (append_assoc (plain c0) (Goto (block_label to) ∷ []) more) st in
+      let parts = plain-apart (meaning program) place labels q.machine.regs.pc c0 (Goto (block_label to) ∷ more) split in
+      let ready = ready-from now here to stood (heads to) 0 (λ i x e. ap (λ (j : ℕ). slice_get (heads to) j) (let z : 0 + i ≡ i = omega arith in z) ∙ e) in
+      let nexts = nexts-go program function a s low fr n (meaning program) typed.functions typed.room place stands.low stands.high bottom top refl now.block to now.values here (heads to) q 0 ready held parts.0 in
+      let goto = parts.1 in
+      let sp-is = nexts.holds.sp in
+      let inside = entering in
+      let hop = goto.1 nexts.point nexts.pc (λ z. let bad : ⊥ = omega (arith, z, sp-is, inside) in bad) in
+      let held1 = hold-hopped program function a s low fr n (meaning program) typed.functions typed.room place stands.low stands.high bottom top refl now.values here nexts.point (labels (block_label to)) nexts.holds hop in
+      let target = placed to exists in
+      let block = target.1.1 in
+      let after : List Item = insts_items function fr to (length (heads to)) (drop (length (heads to)) (insts_at function to)) in
+      let block' = subst (λ (items : List Item). At (labels (block_label to)) items) (append_assoc (plain c1) after target.0) block in
+      let parts' = plain-apart (meaning program) place labels hop.point.machine.regs.pc c1 (after ++ target.0) (subst (λ (k : ℕ). At k (plain c1 ++ (after ++ target.0))) (sym hop.there) block') in
+      let next' = next-hopped program function a s low fr n (meaning program) typed.functions typed.room place stands.low stands.high bottom top refl now.block to now.values (heads to) 0 nexts.point (labels (block_label to)) hop nexts.next in
+      let phis' = phis-go program function a s low fr n (meaning program) typed.functions typed.room place stands.low stands.high bottom top refl now.block to now.values here (heads to) now.values hop.point 0 ready next' held1 parts'.0 in
+      let l0 = nexts.short in
+      let l1 = phis-length function to 0 (heads to) in
+      let cost = units-many (heads to) in
+      let hf = hop.few in let hs = hop.some in
+      let count = few + (length c0 + (hop.count + length c1)) in
+      let pc1 = phis'.pc in
+      let to-even = aligned (block_label to) in
+      let hop-there = hop.there in
+      record {
+        count = count;
+        point = phis'.point;
+        some = omega (arith, hs);
+        few = omega (arith, short, one, l0, l1, hf, cost);
+        run = λ f answers.
+            ap (λ (k : ℕ). code_run (meaning program) place k p answers) (let z : few + (length c0 + (hop.count + length c1)) + f ≡ few + (length c0 + (hop.count + (length c1 + f))) = omega arith in z)
+            ∙ run (length c0 + (hop.count + (length c1 + f))) answers
+            ∙ nexts.run (hop.count + (length c1 + f)) answers
+            ∙ hop.run (length c1 + f) answers
+            ∙ phis'.run f answers;
+        at = record {
+          stood = keeps-goes program typed a is function there now (jump program function now to) here here stood does;
+          long = long;
+          held = phis'.holds;
+          even = omega (arith, pc1, to-even, hop-there);
+          rest = target.0;
+          code = subst (λ (k : ℕ). At k (after ++ target.0)) (sym pc1) parts'.1;
+        };
+      }
+
+  -- ---- jumps and branches
+
+  br-step : (now : Activation) (here : Memory) (p : Point) (gives : Ty) (to : ℕ) → Here now here p
+      → slice_get (insts_at function now.block) now.place ≡ Some (record { gives = gives; op = Br to })
+      → Done (act program function now here (record { gives = gives; op = Br to }) (Br to)).units now here p (act program function now here (record { gives = gives; op = Br to }) (Br to)).does
+  br-step now here p gives to h at =
+      let inst : Inst = record { gives = gives; op = Br to } in
+      let ty = typed-at now.block now.place inst at in
+      let does = ap (λ (st : Step). st.does) (step-is now here (Some inst) h.stood at) in
+      edge-step now here p p 0 (units inst) to (behind_it now h.rest) h.stood h.long h.held (omega arith) (units-some inst)
+      (λ f answers. ap (λ (k : ℕ). code_run (meaning program) place k p answers) (let z : 0 + f ≡ f = omega arith in z)) h.even (code-at now here p inst h at) ty.1 does
+
+  -- the way that a branch takes
+  not-taken : (x : ℕ) → x ≡ 0 → is_taken Bne x 0 ≡ false
+  not-taken x e = ap (λ (k : ℕ). is_taken Bne k 0) e
+
+  is-taken : (x y : ℕ) → x ≡ suc y → is_taken Bne x 0 ≡ true
+  is-taken x y e = ap (λ (k : ℕ). is_taken Bne k 0) e
+
+  cond-step : (now : Activation) (here : Memory) (p : Point) (gives : Ty) (condition : Operand) (if_true if_false : ℕ) → Here now here p
+      → slice_get (insts_at function now.block) now.place ≡ Some (record { gives = gives; op = CondBr condition if_true if_false }) → IsSmallOperand n condition
+      → Done (act program function now here (record { gives = gives; op = CondBr condition if_true if_false }) (CondBr condition if_true if_false)).units now here p
+      (act program function now here (record { gives = gives; op = CondBr condition if_true if_false }) (CondBr condition if_true if_false)).does
+  cond-step now here p gives condition if_true if_false h at small = by_value (operand program now.values condition) refl
+    where
+      inst : Inst
+      inst = record { gives = gives; op = CondBr condition if_true if_false }
+
+      c0 : List Instr
+      c0 = operand_code T0 condition
+
+      no-edge : List Item
+      no-edge = edge_items function now.block if_false
+
+      yes-edge : List Item
+      yes-edge = edge_items function now.block if_true
+
+      rest : List Item
+      rest = behind_it now h.rest
+
+      by_value : (v : Value) → operand program now.values condition ≡ v
+          → Done (take_edge program function now here inst (branch_target v if_true if_false)).units now here p (take_edge program function now here inst (branch_target v if_true if_false)).does
+      by_value v e = ?
