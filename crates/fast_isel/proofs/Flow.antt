@@ -20,37 +20,39 @@ use Rattle.rv_core.specs.declared.instr.LoadOp.TheVariants.{Ld}
 use Rattle.rv_core.specs.declared.instr.ImmOp.TheVariants.{Addi}
 use Rattle.rv_core.specs.declared.instr.Instr.{Instr}
 use Rattle.rv_core.specs.declared.instr.Instr.TheVariants.{Imm, Jalr, Load as LoadWord, Op as RegisterOp}
-use Rattle.rv_core.specs.Step.{read, is_taken}
+use Rattle.rv_core.specs.Step.{read, written, sign_extend_word, is_taken}
 use Rattle.ir_meaning.specs.declared.activation.Activation.{Activation}
 use Rattle.ir_meaning.specs.Value.{Value, Computed, Gives}
 use Rattle.ir_meaning.specs.Memory.{Memory}
 use Rattle.ir_meaning.specs.Operators.{width, binary}
-use Rattle.ir_meaning.specs.Step.{Program, Does, Step, Goes, Calls, Returns, Overflows, Breaks, step, step_in, step_at, act, behind, computed, give, operand, arguments_of, jump, branch_target, take_edge, on_edge, phis, phi_units, phi_value, function_at, insts_at, number_at, stack_start}
+use Rattle.ir_meaning.specs.Step.{Program, Does, Step, Goes, Calls, Returns, Overflows, Breaks, step, step_in, step_at, act, behind, computed, give, operand, arguments_of, jump, branch_target, take_edge, answered, answered_in, answered_at, on_edge, phis, phi_units, phi_value, function_at, insts_at, number_at, stack_start}
 use Rattle.ir_meaning.specs.Plays.{Invocation}
 use Rattle.ir_meaning.specs.Meaning.{meaning, result_width, of_function}
-use Rattle.ir_meaning.specs.Ranges.{FitsWidth, IsInvocation}
-use Rattle.ir_meaning.specs.Typed.{types, IsTyped, IsTypedFunction, IsOp, IsValueType, ArePairs, IsOperand}
+use Rattle.ir_meaning.specs.Ranges.{FitsWidth, FitsResult, AreArgs, IsInvocation}
+use Rattle.ir_meaning.specs.Typed.{types, IsTyped, IsTypedFunction, IsOp, IsCallee, IsValueType, ArePairs, IsOperand}
 use Rattle.ir_meaning.proofs.Keeping.{DoesFit, operand-fits}
-use Rattle.ir_meaning.proofs.Ranges.{Standing, gives-of, does-fit, keeps-goes}
-use Rattle.rv_play.specs.Machine.{Machine, control_base, control_end}
-use Rattle.rv_play.specs.CodePlay.{Place, Point, CodeReply, code_run, place_of}
+use Rattle.ir_meaning.proofs.Ranges.{Standing, gives-of, does-fit, keeps-goes, keeps-reply}
+use Rattle.rv_play.specs.Machine.{Machine, code_base, control_base, control_end, data_base, stub_of}
+use Rattle.rv_play.specs.Ending.{upper}
+use Rattle.rv_play.specs.CodePlay.{Place, Point, CodeReply, code_run, place_of, resume}
 use Rattle.rv_play.specs.CodePlay as code
-use Rattle.rv_play.specs.Good.{IsBase, Enters, RefinesResult}
+use Rattle.rv_play.specs.Good.{IsBase, Enters, RefinesResult, RefinesValue, AtCall, arg_regs}
 use Rattle.rv_play.proofs.Lines.{Stands, stands-apart, goes-then}
-use Rattle.fast_isel.specs.Small.{IsPlain, IsSmallOperand}
-use Rattle.fast_isel.specs.Code.{register_op, operand_code, op_code, epilogue, store_value}
+use Rattle.fast_isel.specs.Small.{IsPlain, IsSmallOperand, AreSmallArgs}
+use Rattle.fast_isel.specs.Code.{register_op, operand_code, args_code, call_code, op_code, epilogue, store_value}
 use Rattle.fast_isel.specs.Blocks.{Item, Goto, Test, Bind, plain, nexts_code, phis_code, block_label, edge_label, edge_items, op_items, insts_items, block_items}
 use Rattle.fast_isel.specs.Labels.{Hops, StandsAs}
 use Rattle.fast_isel.specs.Forms.{IsForm, IsFlow, IsEdgeOperand, AreEdgeOperands}
 use Rattle.fast_isel.proofs.Const.{put}
-use Rattle.fast_isel.proofs.Frame.{Is, Holds, scratch-t0, hold-put, Loaded, operand-loads}
-use Rattle.fast_isel.proofs.Template.{plain_value, plain-gives, plain-below, binary-goes}
-use Rattle.fast_isel.proofs.Body.{operand-short, refines-take, result-refines}
+use Rattle.fast_isel.proofs.Frame.{Is, Holds, scratch-t0, hold-put, hold-store, stored_point, store-goes, other-register, Loaded, operand-loads}
+use Rattle.fast_isel.proofs.Template.{plain_value, plain-gives, plain-below, binary-goes, args-go}
+use Rattle.fast_isel.proofs.Calling.{call_point, call-runs, hold-call, hold-resumed}
+use Rattle.fast_isel.proofs.Body.{operand-short, args-short, refines-take, result-refines, args-refine, arguments-read}
 use Rattle.fast_isel.proofs.Ends.{epilogue-returns}
 use Rattle.fast_isel.proofs.Labelled.{plain-apart, behind-items}
 use Rattle.fast_isel.proofs.Edges.{IsPhiOperand, AreReady, nexts-go, phis-go, hold-hopped, next-hopped, phis-length, units-many}
 use Rattle.fast_isel.proofs.Numbers.{number-inside, number-next, value-below, gives-some, drop-get, IsPhi, phis-stand}
-use Rattle.fast_isel.proofs.Simulation.{Onward, Stopped, Advances}
+use Rattle.fast_isel.proofs.Simulation.{Onward, Stopped, Advances, Steps}
 
 units-some : (inst : Inst) → 1 ≤ units inst
 units-some inst = omega arith
@@ -347,7 +349,58 @@ module _ (program : Program) (typed : IsTyped program) (function : Function) (fl
   not-taken x e = ap (λ (k : ℕ). is_taken Bne k 0) e
 
   is-taken : (x y : ℕ) → x ≡ suc y → is_taken Bne x 0 ≡ true
-  is-taken x y e = ap (λ (k : ℕ). is_taken Bne k 0) e
+  is-taken x y e = let zero-test : (x == 0) ≡ false = grind arith in ap not zero-test
+
+  -- the condition is loaded and tested
+  record Tested (now : Activation) (here : Memory) (p : Point) (condition : Operand) (if_true if_false : ℕ) (rest : List Item) : Type 0 where
+    number : ℕ
+    behind : ℕ
+    at-test : Point
+    means : Is (operand program now.values condition) number
+    hop : Hops (meaning program) place at-test (cond (is_taken Bne number 0) (labels (edge_label now.block)) behind)
+    few : ℕ
+    short : few ≤ 16
+    run : (f : ℕ) (answers : List CodeReply) → code_run (meaning program) place (few + f) p answers ≡ code_run (meaning program) place f hop.point answers
+    held : Held now.values here hop.point
+    even : behind % 4 ≡ 0
+    code : At behind (edge_items function now.block if_false ++ Bind (edge_label now.block) ∷ (edge_items function now.block if_true ++ rest))
+
+  tested : (now : Activation) (here : Memory) (p : Point) (gives : Ty) (condition : Operand) (if_true if_false : ℕ) (h : Here now here p)
+      → slice_get (insts_at function now.block) now.place ≡ Some (record { gives = gives; op = CondBr condition if_true if_false }) → IsSmallOperand n condition
+      → Tested now here p condition if_true if_false (behind_it now h.rest)
+  tested now here p gives condition if_true if_false h at small =
+      let c0 : List Instr = operand_code T0 condition in
+      let lab = edge_label now.block in
+      let tail : List Item = edge_items function now.block if_false ++ Bind lab ∷ edge_items function now.block if_true in
+      let rest = behind_it now h.rest in
+      let all = subst (λ (items : List Item). At p.machine.regs.pc items) (append_assoc (plain c0) (Test Bne T0 X0 lab ∷ tail) rest) (code-at now here p (record { gives = gives; op = CondBr condition if_true if_false }) h at) in
+      let parts = plain-apart (meaning program) place labels p.machine.regs.pc c0 (Test Bne T0 X0 lab ∷ (tail ++ rest)) all in
+      let l0 = operand-loads a s low fr (meaning program) typed.functions typed.room place stands.low stands.high bottom top program now.values here p T0 condition n scratch-t0 (omega arith) (omega arith) refl small h.held parts.0 in
+      let p0 : Point = put p T0 l0.number (length c0) in
+      let h0 = hold-put a s low fr now.values here p T0 l0.number (length c0) scratch-t0 h.held in
+      let test = parts.1 in
+      let sp-is = h.held.sp in
+      let inside = entering in
+      let hop = test.1 p0 refl (λ z. let bad : ⊥ = omega (arith, z, sp-is, inside) in bad) in
+      let o = operand-short n T0 condition small in
+      let hf = hop.few in
+      let even = h.even in
+      record {
+        number = l0.number;
+        behind = p.machine.regs.pc + 4 * length c0 + 4 * test.0;
+        at-test = p0;
+        means = l0.is;
+        hop = hop;
+        few = length c0 + hop.count;
+        short = omega (arith, o, hf);
+        run = λ f answers.
+            ap (λ (k : ℕ). code_run (meaning program) place k p answers) (let z : length c0 + hop.count + f ≡ length c0 + (hop.count + f) = omega arith in z)
+            ∙ l0.run (hop.count + f) answers
+            ∙ hop.run f answers;
+        held = hold-hopped program function a s low fr n (meaning program) typed.functions typed.room place stands.low stands.high bottom top refl now.values here p0 (cond (is_taken Bne l0.number 0) (labels lab) (p.machine.regs.pc + 4 * length c0 + 4 * test.0)) h0 hop;
+        even = omega (arith, even);
+        code = subst (λ (items : List Item). At (p.machine.regs.pc + 4 * length c0 + 4 * test.0) items) (append_assoc (edge_items function now.block if_false) (Bind lab ∷ edge_items function now.block if_true) rest) test.2;
+      }
 
   cond-step : (now : Activation) (here : Memory) (p : Point) (gives : Ty) (condition : Operand) (if_true if_false : ℕ) → Here now here p
       → slice_get (insts_at function now.block) now.place ≡ Some (record { gives = gives; op = CondBr condition if_true if_false }) → IsSmallOperand n condition
@@ -358,18 +411,186 @@ module _ (program : Program) (typed : IsTyped program) (function : Function) (fl
       inst : Inst
       inst = record { gives = gives; op = CondBr condition if_true if_false }
 
-      c0 : List Instr
-      c0 = operand_code T0 condition
-
-      no-edge : List Item
-      no-edge = edge_items function now.block if_false
-
-      yes-edge : List Item
-      yes-edge = edge_items function now.block if_true
-
-      rest : List Item
-      rest = behind_it now h.rest
-
       by_value : (v : Value) → operand program now.values condition ≡ v
-          → Done (take_edge program function now here inst (branch_target v if_true if_false)).units now here p (take_edge program function now here inst (branch_target v if_true if_false)).does
-      by_value v e = ?
+          → Done (take_edge program function now here (record { gives = gives; op = CondBr condition if_true if_false }) (branch_target v if_true if_false)).units now here p
+          (take_edge program function now here (record { gives = gives; op = CondBr condition if_true if_false }) (branch_target v if_true if_false)).does
+      by_value None e = tt
+      by_value (Some zero) e =
+          let c = tested now here p gives condition if_true if_false h at small in
+          let zero-is = c.means 0 e in
+          let there' = c.hop.there ∙ ap (λ (b : Bool). cond b (labels (edge_label now.block)) c.behind) (not-taken c.number zero-is) in
+          let does = ap (λ (st : Step). st.does) (step-is now here (Some (record { gives = gives; op = CondBr condition if_true if_false })) h.stood at) ∙ ap (λ (v : Value). (take_edge program function now here (record { gives = gives; op = CondBr condition if_true if_false }) (branch_target v if_true if_false)).does) e in
+          let even = c.even in
+          edge-step now here p c.hop.point c.few (units (record { gives = gives; op = CondBr condition if_true if_false })) if_false (Bind (edge_label now.block) ∷ (edge_items function now.block if_true ++ behind_it now h.rest)) h.stood h.long c.held c.short
+          (units-some (record { gives = gives; op = CondBr condition if_true if_false })) c.run (omega (arith, there', even))
+          (subst (λ (k : ℕ). At k (edge_items function now.block if_false ++ Bind (edge_label now.block) ∷ (edge_items function now.block if_true ++ behind_it now h.rest))) (sym there') c.code)
+          (typed-at now.block now.place (record { gives = gives; op = CondBr condition if_true if_false }) at).3 does
+      by_value (Some (suc k)) e =
+          let c = tested now here p gives condition if_true if_false h at small in
+          let some-is = c.means (suc k) e in
+          let there' = c.hop.there ∙ ap (λ (b : Bool). cond b (labels (edge_label now.block)) c.behind) (is-taken c.number k some-is) in
+          let does = ap (λ (st : Step). st.does) (step-is now here (Some (record { gives = gives; op = CondBr condition if_true if_false })) h.stood at) ∙ ap (λ (v : Value). (take_edge program function now here (record { gives = gives; op = CondBr condition if_true if_false }) (branch_target v if_true if_false)).does) e in
+          let to-even = aligned (edge_label now.block) in
+          let bound = behind-items (meaning program) place labels (edge_items function now.block if_false) (Bind (edge_label now.block) ∷ (edge_items function now.block if_true ++ behind_it now h.rest)) c.behind c.code in
+          edge-step now here p c.hop.point c.few (units (record { gives = gives; op = CondBr condition if_true if_false })) if_true (behind_it now h.rest) h.stood h.long c.held c.short
+          (units-some (record { gives = gives; op = CondBr condition if_true if_false })) c.run (omega (arith, there', to-even))
+          (subst (λ (k : ℕ). At k (edge_items function now.block if_true ++ behind_it now h.rest)) (sym bound.1.0 ∙ sym there') bound.1.1)
+          (typed-at now.block now.place (record { gives = gives; op = CondBr condition if_true if_false }) at).2 does
+
+  -- ---- a call
+
+  callee-result : (f : Option Function) (tys : List Ty) → IsCallee f tys (Int 64) → of_function None (λ (h : Function). result_width h.ret) f ≡ Some 64
+  callee-result None tys h = absurd h
+  callee-result (Some f) tys h = ap result_width (sym h.1)
+
+  is-answer : (value : Value) (r : ℕ) → RefinesValue 64 value r → r < 2 ^ 64 → Is value r
+  is-answer None r h lt k e = absurd (let bad : ⊥ = cc in bad)
+  is-answer (Some v) r h lt k e = let same : v ≡ k = cc in omega (arith, h, lt, same)
+
+  answer-below : (value : Value) → FitsWidth 64 value → (k : ℕ) → value ≡ Some k → k < 2 ^ 64
+  answer-below None fits k e = absurd (let bad : ⊥ = cc in bad)
+  answer-below (Some x) fits k e = let same : x ≡ k = cc in omega (arith, same, fits)
+
+  frame-of-callee : (meaning program).frame a.symbol ≡ fr
+  frame-of-callee = ap (of_function 0 frame) there
+
+  -- the machine stands at the callee's entry
+  at-call : (g : ℕ) (arguments : List (Ty × Operand)) (values : List Value) (here : Memory) (q : Point) → Held values here q → q.machine.regs.pc % 4 ≡ 0 → code_base ≤ q.machine.regs.pc → length here ≡ length a.memory
+      → ((k v : ℕ) → slice_get (arguments_of program values arguments) k ≡ Some (Some v) → q.machine.regs.x (10 + 0 + k) ≡ v) → AreArgs ((meaning program).parameters g) (arguments_of program values arguments)
+      → AtCall (meaning program) a s g (arguments_of program values arguments) here (call_point g q)
+  at-call g arguments values here q held even inside long given fit =
+      let h = hold-call a s low fr (meaning program) typed.functions place stands.low stands.high entering (omega arith) g values here q held in
+      let many = typed.functions in
+      record {
+        counted = h.counted;
+        control = λ x le. h.kept x (let e = sum-is in omega (arith, e, le));
+        sp = h.sp ∙ ap (λ (j : ℕ). a.sp - j) (sym frame-of-callee);
+        top = h.saved.1.1.1.1.1.1.1.1.1.1.1.0 ∙ enters.top ∙ ap (λ (j : ℕ). data_base + j) (sym long);
+        ra = (omega (arith, even), inr (omega (arith, inside, many)));
+        registers =
+            args-refine ((meaning program).parameters g) (arguments_of program values arguments) arg_regs (λ i. (call_point g q).machine.regs.x (10 + i)) (call_point g q).machine.regs (arguments-read (call_point g q).machine.regs)
+            (λ k v e.
+            other-register (written q.machine.regs.x 6 (sign_extend_word (upper (stub_of g) * 2 ^ 12))) 1 (10 + k) (q.machine.regs.pc + 8) (λ z. let bad : ⊥ = omega (arith, z) in bad)
+            ∙ other-register q.machine.regs.x 6 (10 + k) (sign_extend_word (upper (stub_of g) * 2 ^ 12)) (λ z. let bad : ⊥ = omega (arith, z) in bad)
+            ∙ ap q.machine.regs.x (let z : 10 + k ≡ 10 + 0 + k = omega arith in z) ∙ given k v e) fit;
+        memory' = h.memory';
+      }
+
+  answered-is : (now : Activation) (here : Memory) (inst : Inst) (v : Value) → Stood now here → slice_get (insts_at function now.block) now.place ≡ Some inst → answered program now v ≡ behind function now inst v
+  answered-is now here inst v h at = ap (answered_in now v) (is-function now here h) ∙ ap (answered_at now v function) at
+
+  call-step : (now : Activation) (here : Memory) (p : Point) (g : ℕ) (arguments : List (Ty × Operand)) → Here now here p
+      → slice_get (insts_at function now.block) now.place ≡ Some (record { gives = Int 64; op = Call g arguments }) → length arguments ≤ 8 → AreSmallArgs n arguments
+      → Done (units (record { gives = Int 64; op = Call g arguments })) now here p (Calls g (arguments_of program now.values arguments))
+  call-step now here p g arguments h at few small =
+      let inst : Inst = record { gives = Int 64; op = Call g arguments } in
+      let d = number_at function now.block now.place in
+      let values = now.values in
+      let given = arguments_of program values arguments in
+      let ca : List Instr = args_code 0 arguments in
+      let cs : List Instr = call_code g ++ store_value A0 d ∷ [] in
+      let does : (step program now here).does ≡ Calls g given = ap (λ (st : Step). st.does) (step-is now here (Some inst) h.stood at) in
+      let ty = typed-at now.block now.place inst at in
+      let fit : DoesFit program function (gives-of program typed a is function there now) (Calls g given) =
+          subst (DoesFit program function (gives-of program typed a is function there now)) does (does-fit program typed a is function there now here h.stood) in
+      let inside = number-inside function now.block now.place inst at refl in
+      let parts = plain-apart (meaning program) place labels p.machine.regs.pc (ca ++ cs) (behind_it now h.rest) (code-at now here p inst h at) in
+      let parts' = stands-apart place p.machine.regs.pc ca cs parts.0 in
+      let t = args-go program a s low fr n (meaning program) typed.functions typed.room place stands.low stands.high bottom top refl values here p 0 arguments (omega (arith, few)) small h.held parts'.0 in
+      let q : Point = t.point in
+      let pc = t.pc in
+      let even = h.even in
+      let sta : Stands place q.machine.regs.pc cs = subst (λ (j : ℕ). Stands place j cs) (sym pc) parts'.1 in
+      let parts'' = stands-apart place q.machine.regs.pc (call_code g) (store_value A0 d ∷ []) sta in
+      let low-pc = sta.0 in
+      let short = args-short n 0 arguments small in
+      let calls = call-runs a s low fr (meaning program) typed.functions place stands.low stands.high entering (omega arith) g values here q fit.0 t.holds parts''.0 in
+      let len = length-append ca cs in
+      let cost = units-some inst in
+      record {
+        count = length ca + 2;
+        more = 1;
+        point = call_point g q;
+        some = omega arith;
+        few = omega (arith, short, few, cost);
+        run = λ f answers.
+            ap (λ (k : ℕ). code_run (meaning program) place k p answers) (let z : length ca + 2 + f ≡ length ca + (2 + f) = omega arith in z)
+            ∙ t.run (2 + f) answers ∙ calls f answers;
+        call = at-call g arguments values here q t.holds (omega (arith, pc, even)) low-pc h.long t.given fit.1;
+        back = λ r c is-reply refines-reply.
+            let regs = refines-reply.regs in
+            let qc : Point = call_point g q in
+            let q2 : Point = resume qc c in
+            let x : ℕ = read c.regs A0 in
+            let sixty : (meaning program).result g ≡ Some 64 = callee-result (function_at program g) (types_of_arguments arguments) ty.0 in
+            let isv : Is r.value x = is-answer r.value x (subst (λ (w : Option ℕ). RefinesResult w r.value c.regs) sixty refines-reply.result) (regs 10) in
+            let fitv = answer-below r.value (subst (λ (w : Option ℕ). FitsResult w r.value) sixty is-reply.value) in
+            let held2 = hold-resumed a s low fr (meaning program) typed.functions place stands.low stands.high entering (omega arith) values here r.memory qc c
+                (hold-call a s low fr (meaning program) typed.functions place stands.low stands.high entering (omega arith) g values here q t.holds) refines-reply.memory in
+            let store = store-goes a s low fr (meaning program) typed.functions typed.room place stands.low stands.high bottom top values r.memory q2 A0 d (omega (arith, inside)) held2 parts''.1 in
+            let q3 : Point = stored_point a s low fr q2 d x in
+            let held3 = hold-store a s low fr values r.memory q2 d x r.value (omega (arith, inside)) isv fitv held2 in
+            let next-is = answered-is now here inst r.value h.stood at in
+            let pc3 : p.machine.regs.pc + 4 * length (ca ++ cs) ≡ q3.machine.regs.pc = omega (arith, pc, len) in
+            let long = is-reply.long in
+            let long' = h.long in
+            record {
+              point = q3;
+              run = store;
+              at = subst (λ (z : Activation). Here z r.memory q3) (sym next-is) (record {
+                stood = subst (λ (z : Activation). Stood z r.memory) next-is (keeps-reply program typed a is function there now here g given r h.stood does is-reply);
+                long = long ∙ long';
+                held = held3;
+                even = omega (arith, pc, even);
+                rest = h.rest;
+                code = subst (λ (k : ℕ). At k (behind_it now h.rest)) pc3 parts.1;
+              });
+            };
+      }
+
+  -- ---- each step
+
+  op-step : (now : Activation) (here : Memory) (p : Point) (gives : Ty) (op : Op) → Here now here p → slice_get (insts_at function now.block) now.place ≡ Some (record { gives = gives; op = op }) → IsForm n gives op
+      → Done (act program function now here (record { gives = gives; op = op }) op).units now here p (act program function now here (record { gives = gives; op = op }) op).does
+  op-step now here p gives (Binary op flags x y) h at form = by_type gives (sym form.0) at
+    where
+      by_type : (ty : Ty) → Int 64 ≡ ty → slice_get (insts_at function now.block) now.place ≡ Some (record { gives = ty; op = Binary op flags x y })
+          → Done (act program function now here (record { gives = ty; op = Binary op flags x y }) (Binary op flags x y)).units now here p (act program function now here (record { gives = ty; op = Binary op flags x y }) (Binary op flags x y)).does
+      by_type ty e =
+          subst (λ (t : Ty). slice_get (insts_at function now.block) now.place ≡ Some (record { gives = t; op = Binary op flags x y })
+          → Done (act program function now here (record { gives = t; op = Binary op flags x y }) (Binary op flags x y)).units now here p (act program function now here (record { gives = t; op = Binary op flags x y }) (Binary op flags x y)).does) e
+          (λ at'. binary-step now here p op flags x y h at' form.1 form.2 form.3)
+  op-step now here p gives (Call g arguments) h at form = by_type gives (sym form.0) at
+    where
+      by_type : (ty : Ty) → Int 64 ≡ ty → slice_get (insts_at function now.block) now.place ≡ Some (record { gives = ty; op = Call g arguments })
+          → Done (act program function now here (record { gives = ty; op = Call g arguments }) (Call g arguments)).units now here p (act program function now here (record { gives = ty; op = Call g arguments }) (Call g arguments)).does
+      by_type ty e =
+          subst (λ (t : Ty). slice_get (insts_at function now.block) now.place ≡ Some (record { gives = t; op = Call g arguments })
+          → Done (act program function now here (record { gives = t; op = Call g arguments }) (Call g arguments)).units now here p (act program function now here (record { gives = t; op = Call g arguments }) (Call g arguments)).does) e
+          (λ at'. call-step now here p g arguments h at' form.2 form.3)
+  op-step now here p gives (Ret (Some answer)) h at form = ret-step now here p gives answer h at form
+  op-step now here p gives (Ret None) h at form = absurd form
+  op-step now here p gives (Br to) h at form = br-step now here p gives to h at
+  op-step now here p gives (CondBr condition if_true if_false) h at form = cond-step now here p gives condition if_true if_false h at form
+  op-step now here p gives (Phi pairs) h at form = tt
+  op-step now here p gives (Icmp pred flags of x y) h at form = absurd form
+  op-step now here p gives (Cast op flags of x) h at form = absurd form
+  op-step now here p gives (Select c x y) h at form = absurd form
+  op-step now here p gives (Freeze x) h at form = absurd form
+  op-step now here p gives (Alloca of count) h at form = absurd form
+  op-step now here p gives (Load x) h at form = absurd form
+  op-step now here p gives (Store of x y) h at form = absurd form
+  op-step now here p gives (Gep of x indices) h at form = absurd form
+  op-step now here p gives (CallBuiltIn which arguments) h at form = absurd form
+  op-step now here p gives (Switch of x otherwise cases) h at form = absurd form
+  op-step now here p gives Unreachable h at form = absurd form
+
+  -- what the code does for a step of the play
+  pub steps : Steps program a s place Here
+  steps now here p h = by_inst (slice_get (insts_at function now.block) now.place) refl
+    where
+      by_inst : (o : Option Inst) → slice_get (insts_at function now.block) now.place ≡ o → Done (step program now here).units now here p (step program now here).does
+      by_inst None at = subst (λ (st : Step). Done st.units now here p st.does) (sym (step-is now here None h.stood at)) tt
+      by_inst (Some inst) at =
+          subst (λ (st : Step). Done st.units now here p st.does) (sym (step-is now here (Some inst) h.stood at))
+          (op-step now here p inst.gives inst.op h at (flow.forms now.block now.place inst at))
