@@ -8,7 +8,7 @@ use Rattle.ir_core.specs.declared.code.Op.{Op}
 use Rattle.ir_core.specs.declared.code.Op.TheVariants.{Binary, Phi, Call, Ret, Br, CondBr}
 use Rattle.ir_core.specs.declared.code.Inst.{Inst}
 use Rattle.ir_core.specs.declared.program.Function.{Function}
-use Rattle.ir_core.specs.Units.{values}
+use Rattle.ir_core.specs.Units.{values, frame}
 use Rattle.ir_meaning.specs.Step.{insts_at, phis}
 use Rattle.fast_isel.specs.Small.{IsPlain, IsSmallOperand, AreSmallArgs, AreWords}
 
@@ -31,10 +31,12 @@ IsForm n gives (Br to) = Unit {0}
 IsForm n gives (CondBr condition if_true if_false) = IsSmallOperand n condition
 IsForm n gives _ = ⊥
 
--- a function of blocks whose instructions have these forms, and whose parameters are at most eight numbers of 64 bits
+-- a function of blocks whose instructions have these forms, whose parameters are at most eight numbers of 64 bits, and whose
+-- frame has at most 2,048 bytes
 pub record IsFlow (function : Function) : Type 0 where
   pub params : AreWords function.params
   pub few : length function.params ≤ 8
   pub some : 1 ≤ length function.blocks
+  pub frames : frame function ≤ 2048
   pub entry : phis (insts_at function 0) ≡ []
   pub forms : (block place : ℕ) (inst : Inst) → slice_get (insts_at function block) place ≡ Some inst → IsForm (values function) inst.gives inst.op

@@ -1,10 +1,11 @@
 -- Words that stand as code with labels.
-use Rattle.std.specs.Prelude.{◌≡◌, ◌≢◌, ℕ, ◌+◌, ◌*◌, ◌≤◌, List, [], ◌∷◌, Some, if◌then◌else◌}
+use Rattle.std.specs.Prelude.{◌≡◌, ◌≢◌, ℕ, ◌+◌, ◌*◌, ◌%◌, ◌≤◌, List, [], ◌∷◌, Some, if◌then◌else◌}
 use Rattle.rv_core.specs.declared.reg.Reg.TheVariants.{Sp}
 use Rattle.rv_core.specs.Step.{read, is_taken}
 use Rattle.ir_meaning.specs.Plays.{Meaning}
 use Rattle.rv_play.specs.Machine.{code_base, code_limit}
 use Rattle.rv_play.specs.CodePlay.{Place, Point, CodeReply, code_run, instr_at}
+use Rattle.rv_play.specs.Good.{IsBase}
 use Rattle.fast_isel.specs.Blocks.{Item, Plain, Bind, Goto, Test}
 
 -- one to three instructions lead from a point to an address, and change no register but t6
@@ -33,3 +34,9 @@ StandsAs m place labels pc (Test op a b label ∷ items) =
     × ((p : Point) → p.machine.regs.pc ≡ pc → read p.machine.regs Sp ≢ place.sp →
     Hops m place p (if is_taken op (read p.machine.regs a) (read p.machine.regs b) then labels label else pc + 4 * n))
     × StandsAs m place labels (pc + 4 * n) items
+
+-- words stand as items wherever they stand, whoever enters them; labels are addresses of instructions
+abbrev pub StandEverywhere : Meaning → List ℕ → List Item → Type 0
+StandEverywhere m words items =
+    (place : Place) → place.words ≡ words → IsBase words place.base
+    → (labels : ℕ → ℕ) × ((label : ℕ) → labels label % 4 ≡ 0) × StandsAs m place labels place.base items
