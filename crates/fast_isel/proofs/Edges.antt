@@ -1,10 +1,9 @@
 -- The code of an edge gives the phis of its block their values, all at once.
-use Rattle.std.proofs.Common.{◌≡◌, ◌≢◌, refl, sym, ap, subst, ◌∙◌, ℕ, zero, suc, ◌+◌, ◌-◌, ◌*◌, ◌%◌, ◌^◌, ◌<◌, ◌≤◌, ◌⊎◌, inl, inr, List, [], ◌∷◌, ◌++◌, length, Some, None, Bool, true, false, cond, arith}
-use Rattle.std.specs.Prelude.{pos, slice_get, slice_set, sum_by}
+use Rattle.std.proofs.Common.{◌≡◌, ◌≢◌, refl, sym, ap, subst, ◌∙◌, ℕ, ◌+◌, ◌-◌, ◌*◌, ◌%◌, ◌^◌, ◌<◌, ◌≤◌, ◌⊎◌, inl, inr, List, [], ◌∷◌, ◌++◌, length, Some, None, Bool, true, cond, arith}
+use Rattle.std.specs.Prelude.{slice_set, sum_by}
 use Rattle.std.proofs.lemmas.Bool.{cases_lt}
 use Rattle.std.proofs.lemmas.List.{length-append}
 use Rattle.std.proofs.lemmas.List.Sums.{sum_by-cons}
-use Rattle.ir_core.specs.declared.types.Ty.{Ty}
 use Rattle.ir_core.specs.declared.code.Operand.{Operand}
 use Rattle.ir_core.specs.declared.code.Operand.TheVariants.{Value as Local, Num, Null, Place as PlaceOf, Poison}
 use Rattle.ir_core.specs.declared.code.Op.{Op}
@@ -23,16 +22,16 @@ use Rattle.ir_meaning.specs.Memory.{Memory}
 use Rattle.ir_meaning.specs.Step.{Program, operand, number_at, on_edge, phi_value, with_phis, with_result}
 use Rattle.ir_meaning.specs.Plays.{Meaning, Invocation}
 use Rattle.rv_play.specs.Machine.{Machine, On, code_base, code_limit, control_base, control_end}
-use Rattle.rv_play.specs.CodePlay.{Place, Point, code_run}
-use Rattle.rv_play.specs.Good.{KeepsRegs, KeepsControl, RefinesMemory}
+use Rattle.rv_play.specs.CodePlay.{Place, Point}
+use Rattle.rv_play.specs.Good.{KeepsRegs, RefinesMemory}
 use Rattle.rv_play.proofs.Lines.{Stands, stands-apart, Goes, goes-then, goes-none, plain-step, moved, next-regs, load-acts, store-acts}
 use Rattle.fast_isel.specs.Small.{IsSmallOperand}
-use Rattle.fast_isel.specs.Code.{operand_code, store_value}
+use Rattle.fast_isel.specs.Code.{operand_code}
 use Rattle.fast_isel.specs.Blocks.{load_next, store_next, next_code, next_of, nexts_code, phis_code}
 use Rattle.fast_isel.specs.Forms.{IsEdgeOperand}
 use Rattle.fast_isel.specs.Labels.{Hops}
 use Rattle.fast_isel.proofs.Const.{put, write-is}
-use Rattle.fast_isel.proofs.Frame.{Is, Holds, IsScratch, scratch-t0, saved_regs, hold-put, hold-store, stored_point, store-goes, Loaded, operand-loads}
+use Rattle.fast_isel.proofs.Frame.{Is, Holds, IsScratch, scratch-t0, saved_regs, hold-put, hold-store, stored_point, store-goes, operand-loads}
 use Rattle.fast_isel.proofs.Template.{Through}
 use Rattle.fast_isel.proofs.Body.{operand-short}
 

@@ -1,19 +1,17 @@
 -- The code of a function of several blocks does what each step of its play does.
-use Rattle.std.proofs.Common.{◌≡◌, ◌≢◌, refl, sym, ap, subst, ◌∙◌, ℕ, zero, suc, ◌+◌, ◌-◌, ◌*◌, ◌%◌, ◌^◌, ◌<◌, ◌≤◌, inr, List, [], ◌∷◌, ◌++◌, length, Option, Some, None, Bool, true, false, cond, arith, append_assoc, add_assoc}
-use Rattle.std.specs.Prelude.{◌==◌, not, pos, slice_get, slice_set, take, drop, sum_by}
+use Rattle.std.proofs.Common.{◌≡◌, refl, sym, ap, subst, ◌∙◌, ℕ, zero, suc, ◌+◌, ◌-◌, ◌*◌, ◌%◌, ◌^◌, ◌<◌, ◌≤◌, inr, List, [], ◌∷◌, ◌++◌, length, Option, Some, None, Bool, true, false, cond, arith, append_assoc}
+use Rattle.std.specs.Prelude.{◌==◌, not, pos, slice_get, take, drop}
 use Rattle.std.proofs.lemmas.List.{length-append}
 use Rattle.ir_core.specs.declared.types.Ty.{Ty}
-use Rattle.ir_core.specs.declared.types.Ty.TheVariants.{Void, Int, Ptr}
+use Rattle.ir_core.specs.declared.types.Ty.TheVariants.{Int}
 use Rattle.ir_core.specs.declared.code.Operand.{Operand}
-use Rattle.ir_core.specs.declared.code.Operand.TheVariants.{Value as Local, Num, Null, Place as PlaceOf, Poison}
 use Rattle.ir_core.specs.declared.code.BinOp.{BinOp}
 use Rattle.ir_core.specs.declared.code.Flags.{Flags}
 use Rattle.ir_core.specs.declared.code.Op.{Op}
 use Rattle.ir_core.specs.declared.code.Op.TheVariants.{Binary, Icmp, Cast, Select, Freeze, Phi, Alloca, Load, Store, Gep, Call, BuiltIn as CallBuiltIn, Ret, Br, CondBr, Switch, Unreachable}
 use Rattle.ir_core.specs.declared.code.Inst.{Inst}
 use Rattle.ir_core.specs.declared.program.Function.{Function}
-use Rattle.ir_core.specs.Units.{frame, units, has_result, values as value_count, types_of_arguments}
-use Rattle.rv_core.specs.declared.reg.Reg.{Reg}
+use Rattle.ir_core.specs.Units.{frame, units, values as value_count, types_of_arguments}
 use Rattle.rv_core.specs.declared.reg.Reg.TheVariants.{X0, Ra, Sp, T0, T1, A0}
 use Rattle.rv_core.specs.declared.instr.BranchOp.TheVariants.{Bne}
 use Rattle.rv_core.specs.declared.instr.LoadOp.TheVariants.{Ld}
@@ -22,29 +20,28 @@ use Rattle.rv_core.specs.declared.instr.Instr.{Instr}
 use Rattle.rv_core.specs.declared.instr.Instr.TheVariants.{Imm, Jalr, Load as LoadWord, Op as RegisterOp}
 use Rattle.rv_core.specs.Step.{read, written, sign_extend_word, is_taken}
 use Rattle.ir_meaning.specs.declared.activation.Activation.{Activation}
-use Rattle.ir_meaning.specs.Value.{Value, Computed, Gives}
+use Rattle.ir_meaning.specs.Value.{Value, Computed}
 use Rattle.ir_meaning.specs.Memory.{Memory}
-use Rattle.ir_meaning.specs.Operators.{width, binary}
-use Rattle.ir_meaning.specs.Step.{Program, Does, Step, Goes, Calls, Returns, Overflows, Breaks, step, step_in, step_at, act, behind, computed, give, operand, arguments_of, jump, branch_target, take_edge, answered, answered_in, answered_at, on_edge, phis, phi_units, phi_value, function_at, insts_at, number_at, stack_start}
+use Rattle.ir_meaning.specs.Operators.{width}
+use Rattle.ir_meaning.specs.Step.{Program, Does, Step, Goes, Calls, Returns, step, step_in, step_at, act, behind, computed, give, operand, arguments_of, jump, branch_target, take_edge, answered, answered_in, answered_at, on_edge, phis, phi_units, phi_value, function_at, insts_at, number_at, stack_start}
 use Rattle.ir_meaning.specs.Plays.{Invocation}
 use Rattle.ir_meaning.specs.Meaning.{meaning, result_width, of_function}
 use Rattle.ir_meaning.specs.Ranges.{FitsWidth, FitsResult, AreArgs, IsInvocation}
-use Rattle.ir_meaning.specs.Typed.{types, IsTyped, IsTypedFunction, IsOp, IsCallee, IsValueType, ArePairs, IsOperand}
+use Rattle.ir_meaning.specs.Typed.{types, IsTyped, IsOp, IsCallee, IsValueType, ArePairs, IsOperand}
 use Rattle.ir_meaning.proofs.Keeping.{DoesFit, operand-fits}
 use Rattle.ir_meaning.proofs.Ranges.{Standing, gives-of, does-fit, keeps-goes, keeps-reply}
 use Rattle.rv_play.specs.Machine.{Machine, code_base, control_base, control_end, data_base, stub_of}
 use Rattle.rv_play.specs.Ending.{upper}
 use Rattle.rv_play.specs.CodePlay.{Place, Point, CodeReply, code_run, place_of, resume}
-use Rattle.rv_play.specs.CodePlay as code
 use Rattle.rv_play.specs.Good.{IsBase, Enters, RefinesResult, RefinesValue, AtCall, arg_regs}
-use Rattle.rv_play.proofs.Lines.{Stands, stands-apart, goes-then}
+use Rattle.rv_play.proofs.Lines.{Stands, stands-apart}
 use Rattle.fast_isel.specs.Small.{IsPlain, IsSmallOperand, AreSmallArgs}
 use Rattle.fast_isel.specs.Code.{register_op, operand_code, args_code, call_code, op_code, epilogue, store_value}
 use Rattle.fast_isel.specs.Blocks.{Item, Goto, Test, Bind, plain, nexts_code, phis_code, block_label, edge_label, edge_items, op_items, insts_items, block_items}
 use Rattle.fast_isel.specs.Labels.{Hops, StandsAs}
 use Rattle.fast_isel.specs.Forms.{IsForm, IsFlow, IsEdgeOperand, AreEdgeOperands}
 use Rattle.fast_isel.proofs.Const.{put}
-use Rattle.fast_isel.proofs.Frame.{Is, Holds, scratch-t0, hold-put, hold-store, stored_point, store-goes, other-register, Loaded, operand-loads}
+use Rattle.fast_isel.proofs.Frame.{Is, Holds, scratch-t0, hold-put, hold-store, stored_point, store-goes, other-register, operand-loads}
 use Rattle.fast_isel.proofs.Template.{plain_value, plain-gives, plain-below, binary-goes, args-go}
 use Rattle.fast_isel.proofs.Calling.{call_point, call-runs, hold-call, hold-resumed}
 use Rattle.fast_isel.proofs.Body.{operand-short, args-short, refines-take, result-refines, args-refine, arguments-read}
@@ -52,7 +49,7 @@ use Rattle.fast_isel.proofs.Ends.{epilogue-returns}
 use Rattle.fast_isel.proofs.Labelled.{plain-apart, behind-items}
 use Rattle.fast_isel.proofs.Edges.{IsPhiOperand, AreReady, nexts-go, phis-go, hold-hopped, next-hopped, phis-length, units-many}
 use Rattle.fast_isel.proofs.Numbers.{number-inside, number-next, value-below, gives-some, drop-get, IsPhi, phis-stand}
-use Rattle.fast_isel.proofs.Simulation.{Onward, Stopped, Advances, Steps}
+use Rattle.fast_isel.proofs.Simulation.{Onward, Advances, Steps}
 
 units-some : (inst : Inst) → 1 ≤ units inst
 units-some inst = omega arith
@@ -163,7 +160,7 @@ module _ (program : Program) (typed : IsTyped program) (function : Function) (fl
       let fy = value-below (Int 64) (operand program values y) ty.0 (operand-fits program (types function) values (Int 64) y h.stood.values ty.2) in
       let inside = number-inside function now.block now.place inst at refl in
       let t = binary-goes program a s low fr n (meaning program) typed.functions typed.room place stands.low stands.high bottom top refl op flags x y values here p d plain' sx sy inside fx fy
-          (plain-below op flags (operand program values x) (operand program values y) plain' fx fy) h.held parts.0 in
+      (plain-below op flags (operand program values x) (operand program values y) plain' fx fy) h.held parts.0 in
       let ox = operand-short n T0 x sx in
       let oy = operand-short n T1 y sy in
       let l0 = length-append (operand_code T0 x) (operand_code T1 y ++ RegisterOp (register_op op) T0 T0 T1 ∷ store_value T0 d ∷ []) in
@@ -200,7 +197,7 @@ module _ (program : Program) (typed : IsTyped program) (function : Function) (fl
       let e = epilogue-returns program a s low fr n (meaning program) typed.functions typed.room place stands.low stands.high bottom top refl entering refl enters.ra.0 (regs 1) values here p answer small h.held parts.0 in
       let does : (step program now here).does ≡ Returns (operand program values answer) (take now.entry_length here) = ap (λ (st : Step). st.does) (step-is now here (Some inst) h.stood at) in
       let fit : DoesFit program function (gives-of program typed a is function there now) (Returns (operand program values answer) (take now.entry_length here)) =
-          subst (DoesFit program function (gives-of program typed a is function there now)) does (does-fit program typed a is function there now here h.stood) in
+      subst (DoesFit program function (gives-of program typed a is function there now)) does (does-fit program typed a is function there now here h.stood) in
       let r = e.is in
       let op = operand-short n A0 answer small in
       let len = length-append (operand_code A0 answer) (LoadWord Ld Ra Sp (pos (fr - 8)) ∷ Imm Addi Sp Sp (pos fr) ∷ Jalr X0 Ra (pos 0) ∷ []) in
@@ -260,6 +257,7 @@ module _ (program : Program) (typed : IsTyped program) (function : Function) (fl
       phi-typed (CondBr c x y) ty is-phi = absurd is-phi
       phi-typed (Switch of x otherwise cases) ty is-phi = absurd is-phi
       phi-typed Unreachable ty is-phi = absurd is-phi
+
       phi-form : (op : Op) → IsForm n inst.gives op → IsPhi op → IsPhiOperand n now.block op
       phi-form (Phi pairs) form is-phi = edge-operand n now.block pairs form
       phi-form (Binary op flags x y) form is-phi = tt
@@ -492,7 +490,7 @@ module _ (program : Program) (typed : IsTyped program) (function : Function) (fl
       let does : (step program now here).does ≡ Calls g given = ap (λ (st : Step). st.does) (step-is now here (Some inst) h.stood at) in
       let ty = typed-at now.block now.place inst at in
       let fit : DoesFit program function (gives-of program typed a is function there now) (Calls g given) =
-          subst (DoesFit program function (gives-of program typed a is function there now)) does (does-fit program typed a is function there now here h.stood) in
+      subst (DoesFit program function (gives-of program typed a is function there now)) does (does-fit program typed a is function there now here h.stood) in
       let inside = number-inside function now.block now.place inst at refl in
       let parts = plain-apart (meaning program) place labels p.machine.regs.pc (ca ++ cs) (behind_it now h.rest) (code-at now here p inst h at) in
       let parts' = stands-apart place p.machine.regs.pc ca cs parts.0 in
@@ -526,7 +524,7 @@ module _ (program : Program) (typed : IsTyped program) (function : Function) (fl
             let isv : Is r.value x = is-answer r.value x (subst (λ (w : Option ℕ). RefinesResult w r.value c.regs) sixty refines-reply.result) (regs 10) in
             let fitv = answer-below r.value (subst (λ (w : Option ℕ). FitsResult w r.value) sixty is-reply.value) in
             let held2 = hold-resumed a s low fr (meaning program) typed.functions place stands.low stands.high entering (omega arith) values here r.memory qc c
-                (hold-call a s low fr (meaning program) typed.functions place stands.low stands.high entering (omega arith) g values here q t.holds) refines-reply.memory in
+            (hold-call a s low fr (meaning program) typed.functions place stands.low stands.high entering (omega arith) g values here q t.holds) refines-reply.memory in
             let store = store-goes a s low fr (meaning program) typed.functions typed.room place stands.low stands.high bottom top values r.memory q2 A0 d (omega (arith, inside)) held2 parts''.1 in
             let q3 : Point = stored_point a s low fr q2 d x in
             let held3 = hold-store a s low fr values r.memory q2 d x r.value (omega (arith, inside)) isv fitv held2 in

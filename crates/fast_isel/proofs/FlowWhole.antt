@@ -1,6 +1,6 @@
 -- Words that stand as the code of a function of several blocks are good.
-use Rattle.std.proofs.Common.{◌≡◌, ◌≢◌, refl, sym, ap, subst, ◌∙◌, ℕ, zero, suc, ◌+◌, ◌-◌, ◌*◌, ◌%◌, ◌<◌, ◌≤◌, List, [], ◌∷◌, ◌++◌, length, map, Option, Some, None, Bool, true, false, cond, arith, append_assoc}
-use Rattle.std.specs.Prelude.{nat_lt, slice_get, replicate, drop}
+use Rattle.std.proofs.Common.{◌≡◌, ◌≢◌, refl, sym, ap, subst, ◌∙◌, ℕ, zero, suc, ◌+◌, ◌-◌, ◌*◌, ◌%◌, ◌<◌, ◌≤◌, List, [], ◌++◌, length, map, Option, Some, None, Bool, true, false, cond, arith}
+use Rattle.std.specs.Prelude.{nat_lt, drop}
 use Rattle.std.proofs.lemmas.Bool.{ltb-true, ltb-false}
 use Rattle.std.proofs.lemmas.List.{append-nil}
 use Rattle.std.proofs.lemmas.Option.{slice_get_within}
@@ -9,10 +9,9 @@ use Rattle.ir_core.specs.declared.program.Function.{Function}
 use Rattle.ir_core.specs.Units.{frame, values as value_count}
 use Rattle.ir_meaning.specs.declared.activation.Activation.{Activation}
 use Rattle.ir_meaning.specs.declared.calls.Reply.{Reply}
-use Rattle.ir_meaning.specs.Value.{Value}
 use Rattle.ir_meaning.specs.Memory.{Memory}
 use Rattle.ir_meaning.specs.Operators.{width}
-use Rattle.ir_meaning.specs.Step.{Program, Entry, Opens, TooDeep, function_at, entry, entry_in, first_values, insts_at, phis, stack_start}
+use Rattle.ir_meaning.specs.Step.{Program, Entry, Opens, TooDeep, function_at, entry, entry_in, first_values, insts_at, stack_start}
 use Rattle.ir_meaning.specs.Play.{NotEnded}
 use Rattle.ir_meaning.specs.Plays.{Invocation, play_of}
 use Rattle.ir_meaning.specs.Meaning.{meaning, of_function, parameter_widths}
@@ -21,11 +20,11 @@ use Rattle.ir_meaning.specs.Typed.{IsTyped}
 use Rattle.ir_meaning.proofs.Ranges.{Standing, FirstStands, first-stands, first-args}
 use Rattle.rv_play.specs.Machine.{Machine, control_base}
 use Rattle.rv_play.specs.CodePlay.{Place, Point, CodeReply, code_run, code_play, place_of, entered as entered_at}
-use Rattle.rv_play.specs.Good.{Good, IsBase, Enters, AreReplies, RefinesEnd, RefinesArgs, IsRunning, arg_regs}
+use Rattle.rv_play.specs.Good.{IsBase, Enters, AreReplies, RefinesEnd, RefinesArgs, IsRunning, arg_regs}
 use Rattle.rv_play.proofs.Lines.{Stands}
 use Rattle.fast_isel.specs.Code.{prologue, params_code}
-use Rattle.fast_isel.specs.Blocks.{Item, Bind, plain, phis_code, block_label, block_items, blocks_items, insts_items, function_items}
-use Rattle.fast_isel.specs.Labels.{StandsAs, StandEverywhere}
+use Rattle.fast_isel.specs.Blocks.{Item, plain, phis_code, block_label, block_items, blocks_items, insts_items, function_items}
+use Rattle.fast_isel.specs.Labels.{StandsAs}
 use Rattle.fast_isel.specs.Forms.{IsFlow}
 use Rattle.fast_isel.specs.Laws.{FlowCodeIsGood}
 use Rattle.fast_isel.proofs.Frame.{Holds}
@@ -129,7 +128,7 @@ module _ (program : Program) (typed : IsTyped program) (function : Function) (fl
       let p9 : Point = nine a s (a.sp - fr) fr (meaning program) typed.functions typed.room place stands.low stands.high is.symbol (omega arith) small enters.sp is.sp_low is.sp_high refl enters.regs a.memory enters.memory wide in
       let at9 : base + 4 * length (prologue a.symbol fr) ≡ p9.machine.regs.pc = omega arith in
       let w = params-go a s (a.sp - fr) fr (meaning program) typed.functions typed.room place stands.low stands.high is.symbol (omega arith) small enters.sp is.sp_low is.sp_high refl enters.regs a.memory enters.memory wide 0 np p9 (omega (arith, few)) (omega arith) s0
-          (subst (λ (pc : ℕ). Stands place pc (params_code 0 np)) at9 storing.0) in
+      (subst (λ (pc : ℕ). Stands place pc (params_code 0 np)) at9 storing.0) in
       let q : Point = w.point in
       let pc = w.pc in
       let len = params-length 0 np in

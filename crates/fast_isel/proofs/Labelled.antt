@@ -1,5 +1,5 @@
 -- Items that stand somewhere, in parts.
-use Rattle.std.proofs.Common.{◌≡◌, refl, sym, ap, subst, ◌∙◌, ℕ, zero, suc, ◌+◌, ◌*◌, ◌<◌, List, [], ◌∷◌, ◌++◌, length, arith, append_assoc}
+use Rattle.std.proofs.Common.{◌≡◌, sym, subst, ℕ, zero, suc, ◌+◌, ◌*◌, ◌<◌, List, [], ◌∷◌, ◌++◌, length, arith, append_assoc}
 use Rattle.ir_core.specs.declared.program.Function.{Function}
 use Rattle.rv_core.specs.declared.instr.Instr.{Instr}
 use Rattle.ir_meaning.specs.Plays.{Meaning}

@@ -1,5 +1,5 @@
 -- The numbers of values in a function of several blocks, and the phis at the head of a block.
-use Rattle.std.proofs.Common.{◌≡◌, refl, sym, ap, subst, ◌∙◌, ℕ, zero, suc, ◌+◌, ◌*◌, ◌^◌, ◌<◌, ◌≤◌, List, [], ◌∷◌, ◌++◌, length, Option, Some, None, Bool, true, false, cond, arith}
+use Rattle.std.proofs.Common.{◌≡◌, refl, sym, ap, subst, ◌∙◌, ℕ, zero, suc, ◌+◌, ◌^◌, ◌<◌, ◌≤◌, List, [], ◌∷◌, length, Some, None, Bool, true, false, cond, arith}
 use Rattle.std.specs.Prelude.{slice_get, take, drop}
 use Rattle.std.proofs.Math.Pow.{pow_mono}
 use Rattle.std.proofs.lemmas.List.{length-append}
@@ -7,11 +7,9 @@ use Rattle.std.proofs.lemmas.List.Sums.{sum_by-cons}
 use Rattle.std.proofs.lemmas.Option.{slice_get_within}
 use Rattle.ir_core.specs.declared.types.Ty.{Ty}
 use Rattle.ir_core.specs.declared.types.Ty.TheVariants.{Void, Int, Ptr}
-use Rattle.ir_core.specs.declared.code.Operand.{Operand}
 use Rattle.ir_core.specs.declared.code.Op.{Op}
 use Rattle.ir_core.specs.declared.code.Op.TheVariants.{Binary, Icmp, Cast, Select, Freeze, Phi, Alloca, Load, Store, Gep, Call, BuiltIn as CallBuiltIn, Ret, Br, CondBr, Switch, Unreachable}
 use Rattle.ir_core.specs.declared.code.Inst.{Inst}
-use Rattle.ir_core.specs.declared.code.Block.{Block}
 use Rattle.ir_core.specs.declared.program.Function.{Function}
 use Rattle.ir_core.specs.Units.{instructions, results, has_result, is_result, values as value_count}
 use Rattle.ir_meaning.specs.Value.{Value}
@@ -98,6 +96,7 @@ phis-stand (x ∷ xs) i inst e = by_op x.op refl i e (phis-stand xs)
     found : (i : ℕ) → IsPhi x.op → slice_get (x ∷ phis xs) i ≡ Some inst → ((j : ℕ) (y : Inst) → slice_get (phis xs) j ≡ Some y → (slice_get xs j ≡ Some y) × IsPhi y.op) → (slice_get (x ∷ xs) i ≡ Some inst) × IsPhi inst.op
     found zero is e rest = let same : x ≡ inst = cc in (ap Some same, subst (λ (y : Inst). IsPhi y.op) same is)
     found (suc i) is e rest = rest i inst e
+
     by_op : (op : Op) → x.op ≡ op → (i : ℕ) → slice_get (phis (record { gives = x.gives; op = op } ∷ xs)) i ≡ Some inst
         → ((j : ℕ) (y : Inst) → slice_get (phis xs) j ≡ Some y → (slice_get xs j ≡ Some y) × IsPhi y.op) → (slice_get (x ∷ xs) i ≡ Some inst) × IsPhi inst.op
     by_op (Phi pairs) is i e rest = found i (subst IsPhi (sym is) tt) (ap (λ (op : Op). slice_get (record { gives = x.gives; op = op } ∷ phis xs) i) is ∙ e) rest

@@ -7,14 +7,13 @@ use Rattle.ir_meaning.specs.declared.activation.Activation.{Activation}
 use Rattle.ir_meaning.specs.declared.calls.Reply.{Reply}
 use Rattle.ir_meaning.specs.Value.{Value}
 use Rattle.ir_meaning.specs.Memory.{Memory}
-use Rattle.ir_meaning.specs.Step.{Program, Does, Step, Goes, Calls, Returns, Overflows, Breaks, Entry, Opens, TooDeep, NoFunction, step, answered, entry, entry_units, walker}
-use Rattle.ir_meaning.specs.Play.{PlayEnd, NotEnded, PlayOn, play_on, play_after, play_entry}
-use Rattle.ir_meaning.specs.Play as ends
+use Rattle.ir_meaning.specs.Step.{Program, Does, Goes, Calls, Returns, Overflows, Breaks, Entry, Opens, TooDeep, NoFunction, step, answered, entry, entry_units, walker}
+use Rattle.ir_meaning.specs.Play.{PlayEnd, NotEnded, play_on, play_after, play_entry}
 use Rattle.ir_meaning.specs.Plays.{Meaning, Invocation, play_of}
 use Rattle.ir_meaning.specs.Meaning.{meaning}
 use Rattle.ir_meaning.specs.Ranges.{IsReply}
 use Rattle.ir_meaning.proofs.Steps.{step-costs}
-use Rattle.ir_meaning.proofs.Plays.{paid, unpaid, playing, playing-paid, enough, play-paid, play-unpaid}
+use Rattle.ir_meaning.proofs.Plays.{paid, unpaid, playing, playing-paid, play-paid, play-unpaid}
 use Rattle.ir_meaning.proofs.Bridge.{Arrives, at_step, arrives_next, arrives_behind, entered}
 use Rattle.rv_play.specs.Machine.{Machine}
 use Rattle.rv_play.specs.CodePlay.{Place, Point, CodeEnd, CodeReply, Running, code_run, code_step, code_play, go_on, place_of, resume, entered as entered_at}
@@ -232,7 +231,7 @@ module _ (program : Program) (a : Invocation) (s : Machine) (place : Place) (At 
         by_count (inr long) =
             let some = o.some in
             let t = ih (n - o.count) (spent + (step program now here).units) before replies answers next after o.point (omega (arith, some, le)) (arrives_next program a spent before now next here after at d) o.at rs
-                (λ on. over (subst IsRunning (sym (leads-left m place n o.count p o.point answers long o.run)) on)) in
+            (λ on. over (subst IsRunning (sym (leads-left m place n o.count p o.point answers long o.run)) on)) in
             ended-by replies now here (Goes next after) t.0 d t.1
     ends-does bound ih n spent before replies answers now here p le at rs over (Calls g given) d o = by_replies replies answers rs over
       where
@@ -328,7 +327,7 @@ module _ (program : Program) (a : Invocation) (s : Machine) (place : Place) (At 
           by_count (inl short) = absurd (over (leads-on m place (n - 3) b.count (entered_at base s) b.point answers (omega (arith, short)) b.run))
           by_count (inr long) =
               let t = ends-too (n - 3 - b.count) (n - 3 - b.count) 2 [] replies answers first a.memory b.point (omega arith) (entered program a first is) b.at rs
-                  (λ on. over (subst IsRunning (sym (leads-left m place (n - 3) b.count (entered_at base s) b.point answers long b.run)) on)) in
+              (λ on. over (subst IsRunning (sym (leads-left m place (n - 3) b.count (entered_at base s) b.point answers long b.run)) on)) in
               (2 + t.0, λ e. t.1 (sym (opened first t.0 replies is) ∙ e))
       begun-ends n replies answers rs over TooDeep is b = (2, λ e. let bad = sym (entry-over replies TooDeep is) ∙ e in cc)
       begun-ends n replies answers rs over NoFunction is b = (2, λ e. let bad = sym (entry-over replies NoFunction is) ∙ e in cc)
