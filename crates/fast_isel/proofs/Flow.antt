@@ -379,13 +379,12 @@ module _ (program : Program) (typed : IsTyped program) (function : Function) (fl
       let test = parts.1 in
       let sp-is = h.held.sp in
       let inside = entering in
-      let hop = test.1 p0 refl (λ z. let bad : ⊥ = omega (arith, z, sp-is, inside) in bad) in
+      let hop = test.2 p0 refl (λ z. let bad : ⊥ = omega (arith, z, sp-is, inside) in bad) in
       let o = operand-short n T0 condition small in
       let hf = hop.few in
-      let even = h.even in
       record {
         number = l0.number;
-        behind = p.machine.regs.pc + 4 * length c0 + 4 * test.0;
+        behind = test.0;
         at-test = p0;
         means = l0.is;
         hop = hop;
@@ -395,9 +394,9 @@ module _ (program : Program) (typed : IsTyped program) (function : Function) (fl
             ap (λ (k : ℕ). code_run (meaning program) place k p answers) (let z : length c0 + hop.count + f ≡ length c0 + (hop.count + f) = omega arith in z)
             ∙ l0.run (hop.count + f) answers
             ∙ hop.run f answers;
-        held = hold-hopped program function a s low fr n (meaning program) typed.functions typed.room place stands.low stands.high bottom top refl now.values here p0 (cond (is_taken Bne l0.number 0) (labels lab) (p.machine.regs.pc + 4 * length c0 + 4 * test.0)) h0 hop;
-        even = omega (arith, even);
-        code = subst (λ (items : List Item). At (p.machine.regs.pc + 4 * length c0 + 4 * test.0) items) (append_assoc (edge_items function now.block if_false) (Bind lab ∷ edge_items function now.block if_true) rest) test.2;
+        held = hold-hopped program function a s low fr n (meaning program) typed.functions typed.room place stands.low stands.high bottom top refl now.values here p0 (cond (is_taken Bne l0.number 0) (labels lab) test.0) h0 hop;
+        even = test.1;
+        code = subst (λ (items : List Item). At test.0 items) (append_assoc (edge_items function now.block if_false) (Bind lab ∷ edge_items function now.block if_true) rest) test.3;
       }
 
   cond-step : (now : Activation) (here : Memory) (p : Point) (gives : Ty) (condition : Operand) (if_true if_false : ℕ) → Here now here p

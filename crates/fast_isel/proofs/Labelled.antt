@@ -24,8 +24,8 @@ module _ (m : Meaning) (place : Place) (labels : ℕ → ℕ) where
   behind-items [] ys pc h = (pc, h)
   behind-items (Plain i ∷ xs) ys pc h = behind-items xs ys (pc + 4) h.3
   behind-items (Bind l ∷ xs) ys pc h = behind-items xs ys pc h.1
-  behind-items (Goto l ∷ xs) ys pc h = behind-items xs ys (pc + 4 * h.0) h.2
-  behind-items (Test op a b l ∷ xs) ys pc h = behind-items xs ys (pc + 4 * h.0) h.2
+  behind-items (Goto l ∷ xs) ys pc h = behind-items xs ys h.0 h.2
+  behind-items (Test op a b l ∷ xs) ys pc h = behind-items xs ys h.0 h.3
 
   -- each block stands at its label
   pub block-stands : (function : Function) (frame n first pc j : ℕ) (rest : List Item) → At pc (blocks_items function frame first n ++ rest) → j < n

@@ -21,19 +21,19 @@ pub record Hops (m : Meaning) (place : Place) (p : Point) (to : ℕ) : Type 0 wh
   pub control : point.machine.control ≡ p.machine.control
   pub counted : point.counted ≡ p.counted
 
--- Items stand at an address, where each label has its own. No jump among them is taken for the return, since sp isn't what
+-- Items stand at an address, where each label has its own; what stands behind a jump has an address of its own. No jump among them is taken for the return, since sp isn't what
 -- it was at the entry.
 abbrev pub StandsAs : Meaning → Place → (ℕ → ℕ) → ℕ → List Item → Type 0
 StandsAs m place labels pc [] = Unit {0}
 StandsAs m place labels pc (Plain i ∷ items) = (code_base ≤ pc) × (pc + 4 ≤ code_limit) × (instr_at place pc ≡ Some i) × StandsAs m place labels (pc + 4) items
 StandsAs m place labels pc (Bind label ∷ items) = (labels label ≡ pc) × StandsAs m place labels pc items
 StandsAs m place labels pc (Goto label ∷ items) =
-    (n : ℕ) × ((p : Point) → p.machine.regs.pc ≡ pc → read p.machine.regs Sp ≢ place.sp → Hops m place p (labels label)) × StandsAs m place labels (pc + 4 * n) items
+    (next : ℕ) × ((p : Point) → p.machine.regs.pc ≡ pc → read p.machine.regs Sp ≢ place.sp → Hops m place p (labels label)) × StandsAs m place labels next items
 StandsAs m place labels pc (Test op a b label ∷ items) =
-    (n : ℕ)
+    (next : ℕ) × (next % 4 ≡ 0)
     × ((p : Point) → p.machine.regs.pc ≡ pc → read p.machine.regs Sp ≢ place.sp →
-    Hops m place p (if is_taken op (read p.machine.regs a) (read p.machine.regs b) then labels label else pc + 4 * n))
-    × StandsAs m place labels (pc + 4 * n) items
+    Hops m place p (if is_taken op (read p.machine.regs a) (read p.machine.regs b) then labels label else next))
+    × StandsAs m place labels next items
 
 -- words stand as items wherever they stand, whoever enters them; labels are addresses of instructions
 abbrev pub StandEverywhere : Meaning → List ℕ → List Item → Type 0
