@@ -1,17 +1,18 @@
 -- The code of a function of several blocks does what each step of its play does.
 use Rattle.std.proofs.Common.{◌≡◌, refl, sym, ap, subst, ◌∙◌, ℕ, zero, suc, ◌+◌, ◌-◌, ◌*◌, ◌%◌, ◌^◌, ◌<◌, ◌≤◌, inr, List, [], ◌∷◌, ◌++◌, length, Option, Some, None, Bool, true, false, cond, arith, append_assoc}
-use Rattle.std.specs.Prelude.{◌==◌, not, pos, slice_get, take, drop}
+use Rattle.std.specs.Prelude.{slice_set, ◌==◌, not, pos, slice_get, take, drop}
 use Rattle.std.proofs.lemmas.List.{length-append}
 use Rattle.ir_core.specs.declared.types.Ty.{Ty}
 use Rattle.ir_core.specs.declared.types.Ty.TheVariants.{Int}
 use Rattle.ir_core.specs.declared.code.Operand.{Operand}
 use Rattle.ir_core.specs.declared.code.BinOp.{BinOp}
 use Rattle.ir_core.specs.declared.code.Flags.{Flags}
+use Rattle.ir_core.specs.declared.code.Pred.{Pred}
 use Rattle.ir_core.specs.declared.code.Op.{Op}
 use Rattle.ir_core.specs.declared.code.Op.TheVariants.{Binary, Icmp, Cast, Select, Freeze, Phi, Alloca, Load, Store, Gep, Call, BuiltIn as CallBuiltIn, Ret, Br, CondBr, Switch, Unreachable}
 use Rattle.ir_core.specs.declared.code.Inst.{Inst}
 use Rattle.ir_core.specs.declared.program.Function.{Function}
-use Rattle.ir_core.specs.Units.{frame, units, values as value_count, types_of_arguments}
+use Rattle.ir_core.specs.Units.{frame, units, values as value_count, types_of_arguments, has_result, is_result}
 use Rattle.rv_core.specs.declared.reg.Reg.TheVariants.{X0, Ra, Sp, T0, T1, A0}
 use Rattle.rv_core.specs.declared.instr.BranchOp.TheVariants.{Bne}
 use Rattle.rv_core.specs.declared.instr.LoadOp.TheVariants.{Ld}
@@ -22,7 +23,7 @@ use Rattle.rv_core.specs.Step.{read, written, sign_extend_word, is_taken}
 use Rattle.ir_meaning.specs.declared.activation.Activation.{Activation}
 use Rattle.ir_meaning.specs.Value.{Value, Computed}
 use Rattle.ir_meaning.specs.Memory.{Memory}
-use Rattle.ir_meaning.specs.Operators.{width}
+use Rattle.ir_meaning.specs.Operators.{width, compare}
 use Rattle.ir_meaning.specs.Step.{Program, Does, Step, Goes, Calls, Returns, step, step_in, step_at, act, behind, computed, give, operand, arguments_of, jump, branch_target, take_edge, answered, answered_in, answered_at, on_edge, phis, phi_units, phi_value, function_at, insts_at, number_at, stack_start}
 use Rattle.ir_meaning.specs.Plays.{Invocation}
 use Rattle.ir_meaning.specs.Meaning.{meaning, result_width, of_function}
@@ -37,15 +38,16 @@ use Rattle.rv_play.specs.Good.{IsBase, Enters, RefinesResult, RefinesValue, AtCa
 use Rattle.rv_play.proofs.Lines.{Stands, stands-apart}
 use Rattle.fast_isel.specs.Small.{IsPlain, IsSmallOperand, AreSmallArgs}
 use Rattle.fast_isel.specs.Code.{register_op, operand_code, args_code, call_code, op_code, epilogue, store_value}
-use Rattle.fast_isel.specs.Blocks.{Item, Goto, Test, Bind, plain, nexts_code, phis_code, block_label, edge_label, edge_items, op_items, insts_items, block_items}
+use Rattle.fast_isel.specs.Blocks.{compare_tail, compare_code, Item, Goto, Test, Bind, plain, nexts_code, phis_code, block_label, edge_label, edge_items, op_items, insts_items, block_items}
 use Rattle.fast_isel.specs.Labels.{Hops, StandsAs}
-use Rattle.fast_isel.specs.Forms.{IsForm, IsFlow, IsEdgeOperand, AreEdgeOperands}
+use Rattle.fast_isel.specs.Forms.{IsUnsigned, IsForm, IsFlow, IsEdgeOperand, AreEdgeOperands}
 use Rattle.fast_isel.proofs.Const.{put}
 use Rattle.fast_isel.proofs.Frame.{Is, Holds, scratch-t0, hold-put, hold-store, stored_point, store-goes, other-register, operand-loads}
 use Rattle.fast_isel.proofs.Template.{plain_value, plain-gives, plain-below, binary-goes, args-go}
 use Rattle.fast_isel.proofs.Calling.{call_point, call-runs, hold-call, hold-resumed}
 use Rattle.fast_isel.proofs.Body.{operand-short, args-short, refines-take, result-refines, args-refine, arguments-read}
 use Rattle.fast_isel.proofs.Ends.{epilogue-returns}
+use Rattle.fast_isel.proofs.Compare.{compare-goes, tail-short}
 use Rattle.fast_isel.proofs.Labelled.{plain-apart, behind-items}
 use Rattle.fast_isel.proofs.Edges.{IsPhiOperand, AreReady, nexts-go, phis-go, hold-hopped, next-hopped, phis-length, units-many}
 use Rattle.fast_isel.proofs.Numbers.{number-inside, number-next, value-below, gives-some, drop-get, IsPhi, phis-stand}
@@ -183,6 +185,51 @@ module _ (program : Program) (typed : IsTyped program) (function : Function) (fl
           code = subst (λ (q : ℕ). At q (behind_it now h.rest)) (sym pc) parts.1;
         };
       })
+
+  -- ---- a compare
+
+  icmp-step : (now : Activation) (here : Memory) (p : Point) (gives : Ty) (pred : Pred) (flags : Flags) (x y : Operand) → Here now here p
+      → slice_get (insts_at function now.block) now.place ≡ Some (record { gives = gives; op = Icmp pred flags (Int 64) x y }) → gives ≡ Int 1 → IsUnsigned pred → IsSmallOperand n x → IsSmallOperand n y
+      → Done (units (record { gives = gives; op = Icmp pred flags (Int 64) x y })) now here p (act program function now here (record { gives = gives; op = Icmp pred flags (Int 64) x y }) (Icmp pred flags (Int 64) x y)).does
+  icmp-step now here p gives pred flags x y h at gives-bit unsigned sx sy =
+      let inst : Inst = record { gives = gives; op = Icmp pred flags (Int 64) x y } in
+      let d = number_at function now.block now.place in
+      let values = now.values in
+      let value : Value = compare pred flags 64 (operand program values x) (operand program values y) in
+      let next : Activation = behind function now inst value in
+      let does : (step program now here).does ≡ Goes next here = ap (λ (st : Step). st.does) (step-is now here (Some inst) h.stood at) in
+      let ty = typed-at now.block now.place inst at in
+      let result : has_result inst ≡ true = ap is_result gives-bit in
+      let c0 : List Instr = compare_code pred x y d in
+      let parts = plain-apart (meaning program) place labels p.machine.regs.pc c0 (behind_it now h.rest) (code-at now here p inst h at) in
+      let fx = value-below (Int 64) (operand program values x) ty.1 (operand-fits program (types function) values (Int 64) x h.stood.values ty.2) in
+      let fy = value-below (Int 64) (operand program values y) ty.1 (operand-fits program (types function) values (Int 64) y h.stood.values ty.3) in
+      let inside = number-inside function now.block now.place inst at result in
+      let t = compare-goes program a s low fr n (meaning program) typed.functions typed.room place stands.low stands.high bottom top refl pred flags x y values here p d unsigned sx sy inside fx fy h.held parts.0 in
+      let ox = operand-short n T0 x sx in
+      let oy = operand-short n T1 y sy in
+      let two = tail-short pred in
+      let l0 = length-append (operand_code T0 x) (operand_code T1 y ++ (compare_tail pred ++ store_value T0 d ∷ [])) in
+      let l1 = length-append (operand_code T1 y) (compare_tail pred ++ store_value T0 d ∷ []) in
+      let l2 = length-append (compare_tail pred) (store_value T0 d ∷ []) in
+      let cost = units-some inst in
+      let pc = t.pc in
+      let even = h.even in
+      record {
+        count = length c0;
+        point = t.point;
+        some = omega (arith, l0, l1, l2);
+        few = omega (arith, ox, oy, two, l0, l1, l2, cost);
+        run = t.run;
+        at = record {
+          stood = keeps-goes program typed a is function there now next here here h.stood does;
+          long = h.long;
+          held = subst (λ (vs : List Value). Held vs here t.point) (ap (λ (b : Bool). cond b (slice_set values d value) values) (sym result)) t.holds;
+          even = omega (arith, pc, even);
+          rest = h.rest;
+          code = subst (λ (q : ℕ). At q (behind_it now h.rest)) (sym pc) parts.1;
+        };
+      }
 
   -- ---- a return
 
@@ -570,7 +617,14 @@ module _ (program : Program) (typed : IsTyped program) (function : Function) (fl
   op-step now here p gives (Br to) h at form = br-step now here p gives to h at
   op-step now here p gives (CondBr condition if_true if_false) h at form = cond-step now here p gives condition if_true if_false h at form
   op-step now here p gives (Phi pairs) h at form = tt
-  op-step now here p gives (Icmp pred flags of x y) h at form = absurd form
+  op-step now here p gives (Icmp pred flags of x y) h at form = by_type of (sym form.1) at
+    where
+      by_type : (ty : Ty) → Int 64 ≡ ty → slice_get (insts_at function now.block) now.place ≡ Some (record { gives = gives; op = Icmp pred flags ty x y })
+          → Done (act program function now here (record { gives = gives; op = Icmp pred flags ty x y }) (Icmp pred flags ty x y)).units now here p (act program function now here (record { gives = gives; op = Icmp pred flags ty x y }) (Icmp pred flags ty x y)).does
+      by_type ty e =
+          subst (λ (t : Ty). slice_get (insts_at function now.block) now.place ≡ Some (record { gives = gives; op = Icmp pred flags t x y })
+          → Done (act program function now here (record { gives = gives; op = Icmp pred flags t x y }) (Icmp pred flags t x y)).units now here p (act program function now here (record { gives = gives; op = Icmp pred flags t x y }) (Icmp pred flags t x y)).does) e
+          (λ at'. icmp-step now here p gives pred flags x y h at' (typed-at now.block now.place (record { gives = gives; op = Icmp pred flags (Int 64) x y }) at').0 form.0 form.2 form.3)
   op-step now here p gives (Cast op flags of x) h at form = absurd form
   op-step now here p gives (Select c x y) h at form = absurd form
   op-step now here p gives (Freeze x) h at form = absurd form

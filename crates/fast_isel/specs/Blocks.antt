@@ -3,17 +3,21 @@ use Rattle.std.specs.Prelude.{ℕ, zero, suc, ◌+◌, ◌*◌, pos, List, [], �
 use Rattle.ir_core.specs.declared.code.Operand.{Operand}
 use Rattle.ir_core.specs.declared.code.Operand.TheVariants.{Poison}
 use Rattle.ir_core.specs.declared.code.Op.{Op}
-use Rattle.ir_core.specs.declared.code.Op.TheVariants.{Phi, Ret, Br, CondBr}
+use Rattle.ir_core.specs.declared.code.Op.TheVariants.{Icmp, Phi, Ret, Br, CondBr}
+use Rattle.ir_core.specs.declared.code.Pred.{Pred}
+use Rattle.ir_core.specs.declared.code.Pred.TheVariants.{Eq, Ne, Ult, Ugt, Uge, Ule}
 use Rattle.ir_core.specs.declared.code.Inst.{Inst}
 use Rattle.ir_core.specs.declared.program.Function.{Function}
 use Rattle.rv_core.specs.declared.reg.Reg.{Reg}
-use Rattle.rv_core.specs.declared.reg.Reg.TheVariants.{X0, Sp, T0}
+use Rattle.rv_core.specs.declared.reg.Reg.TheVariants.{X0, Sp, T0, T1}
 use Rattle.rv_core.specs.declared.instr.BranchOp.{BranchOp}
 use Rattle.rv_core.specs.declared.instr.BranchOp.TheVariants.{Bne}
 use Rattle.rv_core.specs.declared.instr.LoadOp.TheVariants.{Ld}
 use Rattle.rv_core.specs.declared.instr.StoreOp.TheVariants.{Sd}
 use Rattle.rv_core.specs.declared.instr.Instr.{Instr}
-use Rattle.rv_core.specs.declared.instr.Instr.TheVariants.{Load, Store}
+use Rattle.rv_core.specs.declared.instr.Instr.TheVariants.{Load, Store, Imm, Op as RegisterOp}
+use Rattle.rv_core.specs.declared.instr.ImmOp.TheVariants.{Sltiu, Xori}
+use Rattle.rv_core.specs.declared.instr.RegOp.TheVariants.{Sub, Sltu}
 use Rattle.ir_meaning.specs.Step.{insts_at, number_at, on_edge, phis}
 use Rattle.fast_isel.specs.Code.{operand_code, store_value, op_code, epilogue, prologue, params_code}
 
@@ -26,6 +30,19 @@ pub data Item : Type 0 where
 
 abbrev pub plain : List Instr → List Item
 plain = map Plain
+
+-- from two numbers in t0 and t1, whether they compare so, for equality and unsigned order
+abbrev pub compare_tail : Pred → List Instr
+compare_tail Eq = RegisterOp Sub T0 T0 T1 ∷ Imm Sltiu T0 T0 (pos 1) ∷ []
+compare_tail Ne = RegisterOp Sub T0 T0 T1 ∷ RegisterOp Sltu T0 X0 T0 ∷ []
+compare_tail Ult = RegisterOp Sltu T0 T0 T1 ∷ []
+compare_tail Ugt = RegisterOp Sltu T0 T1 T0 ∷ []
+compare_tail Uge = RegisterOp Sltu T0 T0 T1 ∷ Imm Xori T0 T0 (pos 1) ∷ []
+compare_tail Ule = RegisterOp Sltu T0 T1 T0 ∷ Imm Xori T0 T0 (pos 1) ∷ []
+compare_tail _ = []
+
+abbrev pub compare_code : Pred → Operand → Operand → ℕ → List Instr
+compare_code pred a b number = operand_code T0 a ++ (operand_code T1 b ++ (compare_tail pred ++ store_value T0 number ∷ []))
 
 -- a phi's next value stands 16 bytes above its slot
 abbrev pub load_next : Reg → ℕ → Instr
@@ -72,6 +89,7 @@ op_items function frame block place (Br to) = edge_items function block to
 op_items function frame block place (CondBr condition if_true if_false) =
     plain (operand_code T0 condition)
     ++ Test Bne T0 X0 (edge_label block) ∷ (edge_items function block if_false ++ Bind (edge_label block) ∷ edge_items function block if_true)
+op_items function frame block place (Icmp pred flags of a b) = plain (compare_code pred a b (number_at function block place))
 op_items function frame block place op = plain (op_code op (number_at function block place))
 
 -- the instructions of a block from a place on

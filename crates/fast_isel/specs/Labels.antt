@@ -1,5 +1,5 @@
 -- Words that stand as code with labels.
-use Rattle.std.specs.Prelude.{◌≡◌, ◌≢◌, ℕ, ◌+◌, ◌*◌, ◌%◌, ◌≤◌, List, [], ◌∷◌, Some, if◌then◌else◌}
+use Rattle.std.specs.Prelude.{◌≡◌, ◌≢◌, ℕ, ◌+◌, ◌%◌, ◌≤◌, List, [], ◌∷◌, Some, if◌then◌else◌}
 use Rattle.rv_core.specs.declared.reg.Reg.TheVariants.{Sp}
 use Rattle.rv_core.specs.Step.{read, is_taken}
 use Rattle.ir_meaning.specs.Plays.{Meaning}
