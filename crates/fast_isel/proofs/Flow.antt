@@ -40,7 +40,7 @@ use Rattle.fast_isel.specs.Small.{IsPlain, IsSmallOperand, AreSmallArgs}
 use Rattle.fast_isel.specs.Code.{register_op, operand_code, args_code, call_code, op_code, epilogue, store_value}
 use Rattle.fast_isel.specs.Blocks.{compare_tail, compare_code, Item, Goto, Test, Bind, plain, nexts_code, phis_code, block_label, edge_label, edge_items, op_items, insts_items, block_items}
 use Rattle.fast_isel.specs.Labels.{Hops, StandsAs}
-use Rattle.fast_isel.specs.Forms.{IsUnsigned, IsForm, IsFlow, IsEdgeOperand, AreEdgeOperands}
+use Rattle.fast_isel.specs.Forms.{IsForm, IsFlow, IsEdgeOperand, AreEdgeOperands}
 use Rattle.fast_isel.proofs.Const.{put}
 use Rattle.fast_isel.proofs.Frame.{Is, Holds, scratch-t0, hold-put, hold-store, stored_point, store-goes, other-register, operand-loads}
 use Rattle.fast_isel.proofs.Template.{plain_value, plain-gives, plain-below, binary-goes, args-go}
@@ -189,9 +189,9 @@ module _ (program : Program) (typed : IsTyped program) (function : Function) (fl
   -- ---- a compare
 
   icmp-step : (now : Activation) (here : Memory) (p : Point) (gives : Ty) (pred : Pred) (flags : Flags) (x y : Operand) → Here now here p
-      → slice_get (insts_at function now.block) now.place ≡ Some (record { gives = gives; op = Icmp pred flags (Int 64) x y }) → gives ≡ Int 1 → IsUnsigned pred → IsSmallOperand n x → IsSmallOperand n y
+      → slice_get (insts_at function now.block) now.place ≡ Some (record { gives = gives; op = Icmp pred flags (Int 64) x y }) → gives ≡ Int 1 → IsSmallOperand n x → IsSmallOperand n y
       → Done (units (record { gives = gives; op = Icmp pred flags (Int 64) x y })) now here p (act program function now here (record { gives = gives; op = Icmp pred flags (Int 64) x y }) (Icmp pred flags (Int 64) x y)).does
-  icmp-step now here p gives pred flags x y h at gives-bit unsigned sx sy =
+  icmp-step now here p gives pred flags x y h at gives-bit sx sy =
       let inst : Inst = record { gives = gives; op = Icmp pred flags (Int 64) x y } in
       let d = number_at function now.block now.place in
       let values = now.values in
@@ -205,7 +205,7 @@ module _ (program : Program) (typed : IsTyped program) (function : Function) (fl
       let fx = value-below (Int 64) (operand program values x) ty.1 (operand-fits program (types function) values (Int 64) x h.stood.values ty.2) in
       let fy = value-below (Int 64) (operand program values y) ty.1 (operand-fits program (types function) values (Int 64) y h.stood.values ty.3) in
       let inside = number-inside function now.block now.place inst at result in
-      let t = compare-goes program a s low fr n (meaning program) typed.functions typed.room place stands.low stands.high bottom top refl pred flags x y values here p d unsigned sx sy inside fx fy h.held parts.0 in
+      let t = compare-goes program a s low fr n (meaning program) typed.functions typed.room place stands.low stands.high bottom top refl pred flags x y values here p d sx sy inside fx fy h.held parts.0 in
       let ox = operand-short n T0 x sx in
       let oy = operand-short n T1 y sy in
       let two = tail-short pred in
@@ -617,14 +617,14 @@ module _ (program : Program) (typed : IsTyped program) (function : Function) (fl
   op-step now here p gives (Br to) h at form = br-step now here p gives to h at
   op-step now here p gives (CondBr condition if_true if_false) h at form = cond-step now here p gives condition if_true if_false h at form
   op-step now here p gives (Phi pairs) h at form = tt
-  op-step now here p gives (Icmp pred flags of x y) h at form = by_type of (sym form.1) at
+  op-step now here p gives (Icmp pred flags of x y) h at form = by_type of (sym form.0) at
     where
       by_type : (ty : Ty) → Int 64 ≡ ty → slice_get (insts_at function now.block) now.place ≡ Some (record { gives = gives; op = Icmp pred flags ty x y })
           → Done (act program function now here (record { gives = gives; op = Icmp pred flags ty x y }) (Icmp pred flags ty x y)).units now here p (act program function now here (record { gives = gives; op = Icmp pred flags ty x y }) (Icmp pred flags ty x y)).does
       by_type ty e =
           subst (λ (t : Ty). slice_get (insts_at function now.block) now.place ≡ Some (record { gives = gives; op = Icmp pred flags t x y })
           → Done (act program function now here (record { gives = gives; op = Icmp pred flags t x y }) (Icmp pred flags t x y)).units now here p (act program function now here (record { gives = gives; op = Icmp pred flags t x y }) (Icmp pred flags t x y)).does) e
-          (λ at'. icmp-step now here p gives pred flags x y h at' (typed-at now.block now.place (record { gives = gives; op = Icmp pred flags (Int 64) x y }) at').0 form.0 form.2 form.3)
+          (λ at'. icmp-step now here p gives pred flags x y h at' (typed-at now.block now.place (record { gives = gives; op = Icmp pred flags (Int 64) x y }) at').0 form.1 form.2)
   op-step now here p gives (Cast op flags of x) h at form = absurd form
   op-step now here p gives (Select c x y) h at form = absurd form
   op-step now here p gives (Freeze x) h at form = absurd form

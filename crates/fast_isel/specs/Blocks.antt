@@ -5,7 +5,7 @@ use Rattle.ir_core.specs.declared.code.Operand.TheVariants.{Poison}
 use Rattle.ir_core.specs.declared.code.Op.{Op}
 use Rattle.ir_core.specs.declared.code.Op.TheVariants.{Icmp, Phi, Ret, Br, CondBr}
 use Rattle.ir_core.specs.declared.code.Pred.{Pred}
-use Rattle.ir_core.specs.declared.code.Pred.TheVariants.{Eq, Ne, Ult, Ugt, Uge, Ule}
+use Rattle.ir_core.specs.declared.code.Pred.TheVariants.{Eq, Ne, Ult, Ugt, Uge, Ule, Slt, Sgt, Sge, Sle}
 use Rattle.ir_core.specs.declared.code.Inst.{Inst}
 use Rattle.ir_core.specs.declared.program.Function.{Function}
 use Rattle.rv_core.specs.declared.reg.Reg.{Reg}
@@ -17,7 +17,7 @@ use Rattle.rv_core.specs.declared.instr.StoreOp.TheVariants.{Sd}
 use Rattle.rv_core.specs.declared.instr.Instr.{Instr}
 use Rattle.rv_core.specs.declared.instr.Instr.TheVariants.{Load, Store, Imm, Op as RegisterOp}
 use Rattle.rv_core.specs.declared.instr.ImmOp.TheVariants.{Sltiu, Xori}
-use Rattle.rv_core.specs.declared.instr.RegOp.TheVariants.{Sub, Sltu}
+use Rattle.rv_core.specs.declared.instr.RegOp.TheVariants.{Sub, Sltu, Slt as SetLess}
 use Rattle.ir_meaning.specs.Step.{insts_at, number_at, on_edge, phis}
 use Rattle.fast_isel.specs.Code.{operand_code, store_value, op_code, epilogue, prologue, params_code}
 
@@ -31,7 +31,7 @@ pub data Item : Type 0 where
 abbrev pub plain : List Instr → List Item
 plain = map Plain
 
--- from two numbers in t0 and t1, whether they compare so, for equality and unsigned order
+-- from two numbers in t0 and t1, whether they compare so
 abbrev pub compare_tail : Pred → List Instr
 compare_tail Eq = RegisterOp Sub T0 T0 T1 ∷ Imm Sltiu T0 T0 (pos 1) ∷ []
 compare_tail Ne = RegisterOp Sub T0 T0 T1 ∷ RegisterOp Sltu T0 X0 T0 ∷ []
@@ -39,7 +39,10 @@ compare_tail Ult = RegisterOp Sltu T0 T0 T1 ∷ []
 compare_tail Ugt = RegisterOp Sltu T0 T1 T0 ∷ []
 compare_tail Uge = RegisterOp Sltu T0 T0 T1 ∷ Imm Xori T0 T0 (pos 1) ∷ []
 compare_tail Ule = RegisterOp Sltu T0 T1 T0 ∷ Imm Xori T0 T0 (pos 1) ∷ []
-compare_tail _ = []
+compare_tail Slt = RegisterOp SetLess T0 T0 T1 ∷ []
+compare_tail Sgt = RegisterOp SetLess T0 T1 T0 ∷ []
+compare_tail Sge = RegisterOp SetLess T0 T0 T1 ∷ Imm Xori T0 T0 (pos 1) ∷ []
+compare_tail Sle = RegisterOp SetLess T0 T1 T0 ∷ Imm Xori T0 T0 (pos 1) ∷ []
 
 abbrev pub compare_code : Pred → Operand → Operand → ℕ → List Instr
 compare_code pred a b number = operand_code T0 a ++ (operand_code T1 b ++ (compare_tail pred ++ store_value T0 number ∷ []))

@@ -6,8 +6,6 @@ use Rattle.ir_core.specs.declared.code.Operand.{Operand}
 use Rattle.ir_core.specs.declared.code.Operand.TheVariants.{Poison}
 use Rattle.ir_core.specs.declared.code.Op.{Op}
 use Rattle.ir_core.specs.declared.code.Op.TheVariants.{Binary, Icmp, Phi, Call, Ret, Br, CondBr}
-use Rattle.ir_core.specs.declared.code.Pred.{Pred}
-use Rattle.ir_core.specs.declared.code.Pred.TheVariants.{Eq, Ne, Ult, Ugt, Uge, Ule}
 use Rattle.ir_core.specs.declared.code.Inst.{Inst}
 use Rattle.ir_core.specs.declared.program.Function.{Function}
 use Rattle.ir_core.specs.Units.{values, frame}
@@ -23,20 +21,10 @@ abbrev pub AreEdgeOperands : ℕ → List (Operand × ℕ) → Type 0
 AreEdgeOperands n [] = Unit {0}
 AreEdgeOperands n (pair ∷ pairs) = IsEdgeOperand n pair.0 × AreEdgeOperands n pairs
 
--- equality or unsigned order
-abbrev pub IsUnsigned : Pred → Type 0
-IsUnsigned Eq = Unit {0}
-IsUnsigned Ne = Unit {0}
-IsUnsigned Ult = Unit {0}
-IsUnsigned Ugt = Unit {0}
-IsUnsigned Uge = Unit {0}
-IsUnsigned Ule = Unit {0}
-IsUnsigned _ = ⊥
-
 -- an instruction among n values: a plain operation, a compare or a call of 64 bits, a phi, a jump, a branch, or a return of a value
 abbrev pub IsForm : ℕ → Ty → Op → Type 0
 IsForm n gives (Binary op flags a b) = (gives ≡ Int 64) × IsPlain op × IsSmallOperand n a × IsSmallOperand n b
-IsForm n gives (Icmp pred flags of a b) = IsUnsigned pred × (of ≡ Int 64) × IsSmallOperand n a × IsSmallOperand n b
+IsForm n gives (Icmp pred flags of a b) = (of ≡ Int 64) × IsSmallOperand n a × IsSmallOperand n b
 IsForm n gives (Phi pairs) = AreEdgeOperands n pairs
 IsForm n gives (Call callee arguments) = (gives ≡ Int 64) × (callee < 1024) × (length arguments ≤ 8) × AreSmallArgs n arguments
 IsForm n gives (Ret (Some answer)) = IsSmallOperand n answer
