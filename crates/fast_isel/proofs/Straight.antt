@@ -1,5 +1,5 @@
 -- The play of a small function ends within the function's units, since nothing in it jumps.
-use Rattle.std.proofs.Common.{◌≡◌, ◌≢◌, refl, sym, ap, subst, ◌∙◌, ℕ, zero, suc, ◌+◌, ◌-◌, ◌≤◌, List, [], ◌∷◌, ◌++◌, length, Option, Some, None, Bool, true, false, arith}
+use Rattle.std.proofs.Common.{◌≡◌, ◌≢◌, refl, sym, ap, subst, ◌∙◌, ℕ, zero, suc, ◌+◌, ◌-◌, ◌≤◌, List, [], ◌∷◌, ◌++◌, length, Some, Bool, true, false, arith}
 use Rattle.std.specs.Prelude.{nat_lt, slice_get, sum_by, if◌then◌else◌}
 use Rattle.std.proofs.lemmas.Bool.{le-ltb}
 use Rattle.std.proofs.lemmas.List.Sums.{sum_by-cons}
@@ -16,9 +16,8 @@ use Rattle.ir_meaning.specs.declared.calls.Reply.{Reply}
 use Rattle.ir_meaning.specs.Value.{Value, Computed, Gives, NoMeaning}
 use Rattle.ir_meaning.specs.Memory.{Memory}
 use Rattle.ir_meaning.specs.Operators.{width, binary}
-use Rattle.ir_meaning.specs.Step.{Program, Step, Does, Calls, Returns, Goes, Breaks, Entry, Opens, TooDeep, NoFunction, step, step_in, step_at, act, behind, answered, answered_in, answered_at, computed, give, plain, operand, arguments_of, entry, entry_in, first_values, function_at, insts_of, insts_at, walker, stack_start}
-use Rattle.ir_meaning.specs.Play.{PlayEnd, NotEnded, play, play_on, play_after, play_entry}
-use Rattle.ir_meaning.specs.Play as ends
+use Rattle.ir_meaning.specs.Step.{Program, Step, Calls, Entry, Opens, TooDeep, NoFunction, step, step_in, step_at, act, behind, answered, answered_in, answered_at, computed, give, operand, arguments_of, entry, entry_in, first_values, function_at, insts_of, insts_at, walker, stack_start}
+use Rattle.ir_meaning.specs.Play.{PlayEnd, NotEnded, play_on, play_after, play_entry}
 use Rattle.ir_meaning.specs.Plays.{Invocation, play_of}
 use Rattle.ir_meaning.specs.Meaning.{meaning}
 use Rattle.ir_meaning.proofs.Plays.{paid, play-paid}

@@ -1,0 +1,44 @@
+-- Items that stand somewhere, in parts.
+use Rattle.std.proofs.Common.{◌≡◌, sym, subst, ℕ, zero, suc, ◌+◌, ◌*◌, ◌<◌, List, [], ◌∷◌, ◌++◌, length, arith, append_assoc}
+use Rattle.ir_core.specs.declared.program.Function.{Function}
+use Rattle.rv_core.specs.declared.instr.Instr.{Instr}
+use Rattle.ir_meaning.specs.Plays.{Meaning}
+use Rattle.rv_play.specs.CodePlay.{Place}
+use Rattle.rv_play.proofs.Lines.{Stands}
+use Rattle.fast_isel.specs.Blocks.{Item, Plain, Bind, Goto, Test, plain, block_label, block_items, blocks_items}
+use Rattle.fast_isel.specs.Labels.{StandsAs}
+
+module _ (m : Meaning) (place : Place) (labels : ℕ → ℕ) where
+  abbrev At : ℕ → List Item → Type 0
+  At = StandsAs m place labels
+
+  -- instructions, and what stands behind them
+  pub plain-apart : (pc : ℕ) (xs : List Instr) (ys : List Item) → At pc (plain xs ++ ys) → Stands place pc xs × At (pc + 4 * length xs) ys
+  plain-apart pc [] ys h = (tt, subst (λ (q : ℕ). At q ys) (let e : pc ≡ pc + 4 * 0 = omega arith in e) h)
+  plain-apart pc (x ∷ xs) ys h =
+      let r = plain-apart (pc + 4) xs ys h.3 in
+      ((h.0, h.1, h.2, r.0), subst (λ (q : ℕ). At q ys) (let e : pc + 4 + 4 * length xs ≡ pc + 4 * suc (length xs) = omega arith in e) r.1)
+
+  -- what stands behind items
+  pub behind-items : (xs ys : List Item) (pc : ℕ) → At pc (xs ++ ys) → (q : ℕ) × At q ys
+  behind-items [] ys pc h = (pc, h)
+  behind-items (Plain i ∷ xs) ys pc h = behind-items xs ys (pc + 4) h.3
+  behind-items (Bind l ∷ xs) ys pc h = behind-items xs ys pc h.1
+  behind-items (Goto l ∷ xs) ys pc h = behind-items xs ys h.0 h.2
+  behind-items (Test op a b l ∷ xs) ys pc h = behind-items xs ys h.0 h.3
+
+  -- each block stands at its label
+  pub block-stands : (function : Function) (frame n first pc j : ℕ) (rest : List Item) → At pc (blocks_items function frame first n ++ rest) → j < n
+      → (more : List Item) × At (labels (block_label (first + j))) (block_items function frame (first + j) ++ more)
+  block-stands function frame zero first pc j rest h lt = absurd (let bad : ⊥ = omega arith in bad)
+  block-stands function frame (suc n) first pc zero rest h lt =
+      let more = blocks_items function frame (first + 1) n ++ rest in
+      let all = subst (λ (items : List Item). At pc items) (append_assoc (block_items function frame first) (blocks_items function frame (first + 1) n) rest) h in
+      let same : first ≡ first + 0 = omega arith in
+      (more, subst (λ (b : ℕ). At (labels (block_label b)) (block_items function frame b ++ more)) same (subst (λ (q : ℕ). At q (block_items function frame first ++ more)) (sym all.0) all))
+  block-stands function frame (suc n) first pc (suc j) rest h lt =
+      let all = subst (λ (items : List Item). At pc items) (append_assoc (block_items function frame first) (blocks_items function frame (first + 1) n) rest) h in
+      let next = behind-items (block_items function frame first) (blocks_items function frame (first + 1) n ++ rest) pc all in
+      let r = block-stands function frame n (first + 1) next.0 j rest next.1 (omega arith) in
+      let same : first + 1 + j ≡ first + suc j = omega arith in
+      (r.0, subst (λ (b : ℕ). At (labels (block_label b)) (block_items function frame b ++ r.0)) same r.1)
