@@ -1,5 +1,3 @@
-pub mod First
-pub mod Limits
 pub mod Shapes
 pub mod Ranges
 pub mod Types

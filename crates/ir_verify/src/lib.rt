@@ -3,6 +3,7 @@
 
 pub mod calls;
 pub mod checked;
+pub mod inits;
 pub mod phis;
 pub mod ranges;
 pub mod refusal;

@@ -1,9 +1,10 @@
 // The types of operands and results.
 ghost use Rattle.std.specs.Prelude.{◌≡◌, ℕ, ◌+◌, ◌^◌, ◌<◌, ◌≤◌, length, map, slice_get, drop, Option, Some, None, [], ◌∷◌, ◌++◌, IfOk, OnOk};
 ghost use Rattle.ir_flow.specs.Code.{places, typed_pairs};
-ghost use Rattle.ir_verify.specs.First.{first_refused};
+ghost use Rattle.ir_limits.specs.First.{first_refused};
 ghost use Rattle.ir_meaning.specs.Typed.{types as types_of};
 ghost use Rattle.std.specs.Option.{option_copied};
+ghost use Rattle.ir_core.specs.Layout.{is_memory_width as is_memory_width_number};
 ghost use Rattle.ir_core.specs.Units.{instructions};
 ghost use Rattle.ir_core.specs.declared.code.BuiltIn.TheVariants.{MemCpy};
 ghost use Rattle.ir_verify.specs.Types.{same_type as same_type_of, is_void as is_void_type, is_ptr as is_ptr_type, is_int as is_int_type, is_int_of as is_int_of_width, fits_place as fits_place_of, width_of as width_of_type, is_narrow as is_narrow_op, is_cast as is_cast_of, is_stored as is_stored_type, is_built_in as is_built_in_of, all_int as all_int_of, all_fit_places, field_named as field_named_in, is_returned as is_returned_of, leads_into as leads_into_type, is_part as is_part_of, gives_type as gives_type_of, is_typed as is_typed_inst, is_length as is_length_type, is_number as is_number_operand};
@@ -107,12 +108,19 @@ fn is_cast(op: CastOp, from: Ty, to: Ty) -> bool
     }
 }
 
+/// An integer of this width can stand in memory.
+pub fn is_memory_width(width: u32) -> bool
+    ensures { result ≡ is_memory_width_number width }
+{
+    (width == 8 || width == 16 || width == 32 || width == 64 || width == 128) && width <= MAX_WIDTH
+}
+
 fn is_stored(ty: Ty) -> bool
     ensures { result ≡ is_stored_type ty }
 {
     match ty {
         Ty::Void => false,
-        Ty::Int(w) => (w == 8 || w == 16 || w == 32 || w == 64 || w == 128) && w <= MAX_WIDTH,
+        Ty::Int(w) => is_memory_width(w),
         Ty::Ptr => true,
     }
 }
