@@ -1,2 +1,4 @@
+pub mod Lists
+pub mod Usable
 mod Arguments
 mod Wide

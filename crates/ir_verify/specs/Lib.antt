@@ -3,4 +3,5 @@ pub mod Ranges
 pub mod Types
 pub mod Calls
 pub mod Phis
+pub mod Small
 pub mod Verdict

@@ -2,6 +2,7 @@ use Rattle.std.proofs.Common.{◌≡◌, ◌*◌, ℕ, Option, refl, sym, ◌∙
 use Rattle.std.proofs.lemmas.Grind.{common_steps}
 use Rattle.ir_core.specs.declared.types.MemTy.{MemTy}
 use Rattle.ir_core.specs.declared.types.MemTy.TheVariants.{Array}
+use Rattle.ir_core.specs.Layout.{greatest_align}
 use Rattle.ir_limits.specs.Limits.{capped, capped_passing, own_or_parts, measured, extents_of, first_passing}
 use Rattle.ir_limits.proofs.Stops.{passing-Array, capped_product, least_align, end_on, align_on, passing_on}
 use Rattle.ir_limits.proofs.sizes.+measures.Goals as goal
@@ -34,11 +35,11 @@ struct_measure-loop-field-preserved t c =
     let most : c.max-align.result ≡ max c.loop-field.align c.measure_of-part.result.extent.align = grind (arith, common_steps, c.max-align.ensures) in
     record {
       end = end_on fields i field c.loop-field-test.true c.field-item.is c.args.packed c.loop-field.end c.saturating_add-end.result c.measure_of-part.result.extent.align
-          c.field_start.result c.measure_of-part.result.extent.size _ c.loop-field.invariant.end c.measure_of-part.ensures.align c.field_start.ensures c.measure_of-part.ensures.size c.saturating_add-end.ensures;
-      align = align_on fields i field c.loop-field-test.true c.field-item.is c.loop-field.align c.max-align.result c.measure_of-part.result.extent.align _
+          c.field_start.result c.measure_of-part.result.extent.size (extents_of (map measured fields)) c.loop-field.invariant.end c.measure_of-part.ensures.align c.field_start.ensures c.measure_of-part.ensures.size c.saturating_add-end.ensures;
+      align = align_on fields i field c.loop-field-test.true c.field-item.is c.loop-field.align c.max-align.result c.measure_of-part.result.extent.align (greatest_align (extents_of (map measured fields)))
           c.loop-field.invariant.align c.measure_of-part.ensures.align most;
       least = omega (arith, c.loop-field.invariant.least, most);
       most = omega (arith, c.loop-field.invariant.most, most, c.measure_of-part.ensures.least.1);
-      passing = passing_on fields i field c.loop-field-test.true c.field-item.is c.loop-field.passing c.first_of-passing.result c.measure_of-part.result.passing _
+      passing = passing_on fields i field c.loop-field-test.true c.field-item.is c.loop-field.passing c.first_of-passing.result c.measure_of-part.result.passing (capped_passing (first_passing (map measured fields)))
           c.loop-field.invariant.passing c.measure_of-part.ensures.passing c.first_of-passing.ensures;
     }
