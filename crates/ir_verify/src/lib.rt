@@ -9,3 +9,4 @@ pub mod ranges;
 pub mod refusal;
 pub mod shapes;
 pub mod types;
+pub mod verdict;
