@@ -1,0 +1,5 @@
+pub mod Stores
+pub mod Serving
+pub mod Doing
+pub mod Decoding
+pub mod Turning

@@ -1,0 +1,2 @@
+//! The module of a text.
+#![tactic(auto)]

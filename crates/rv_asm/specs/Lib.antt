@@ -1,0 +1,4 @@
+pub mod Code
+pub mod Constant
+pub mod Layout
+pub mod Runs

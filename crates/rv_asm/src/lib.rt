@@ -1,0 +1,9 @@
+// Code with labels, and the words that it becomes.
+#![tactic(auto)]
+
+pub mod asm;
+pub mod constant;
+pub mod item;
+pub mod layout;
+#[cfg(test)]
+mod tests;

@@ -1,0 +1,7 @@
+// The listing of words: what each spells, in the form of an assembler.
+#![tactic(auto)]
+
+pub mod listing;
+pub mod names;
+#[cfg(test)]
+mod tests;
