@@ -83,3 +83,14 @@ pub none_in : {A B : Type 0} (show : ℕ → A → Option B) (at : ℕ) (xs : Li
 none_in show at [] e = tt
 none_in show at (x ∷ xs) e =
     ((at, or_none_left (show at x) (first_in show (at + 1) xs) e), none_in show (at + 1) xs (or_none_right (show at x) (first_in show (at + 1) xs) e))
+
+pub some_at : {A : Type 0} (xs : List A) (i : ℕ) (x : A) → i < length xs → x ≡ get_or xs i x → slice_get xs i ≡ Some x
+some_at [] i x below e = absurd (omega arith)
+some_at (y ∷ ys) zero x below e = ap Some (sym e)
+some_at (y ∷ ys) (suc i) x below e = some_at ys i x (omega arith) e
+
+pub last_or : (i n : ℕ) → i < n + 1 → (i < n) ⊎ (i ≡ n)
+last_or i n h = grind arith
+
+pub same_at : {A : Type 0} (xs : List A) (i j : ℕ) (x y : A) → i ≡ j → slice_get xs i ≡ Some x → slice_get xs j ≡ Some y → y ≡ x
+same_at xs i j x y e at_i at_j = some_same y x (sym at_j ∙ ap (slice_get xs) (sym e) ∙ at_i)

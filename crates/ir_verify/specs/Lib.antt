@@ -5,3 +5,4 @@ pub mod Calls
 pub mod Phis
 pub mod Small
 pub mod Verdict
+pub mod Laws
