@@ -94,3 +94,8 @@ last_or i n h = grind arith
 
 pub same_at : {A : Type 0} (xs : List A) (i j : ℕ) (x y : A) → i ≡ j → slice_get xs i ≡ Some x → slice_get xs j ≡ Some y → y ≡ x
 same_at xs i j x y e at_i at_j = some_same y x (sym at_j ∙ ap (slice_get xs) (sym e) ∙ at_i)
+
+pub is_below : {A : Type 0} (xs : List A) (i : ℕ) (x : A) → slice_get xs i ≡ Some x → i < length xs
+is_below [] i x e = absurd (none_some x e)
+is_below (y ∷ ys) zero x e = omega arith
+is_below (y ∷ ys) (suc i) x e = let rest : i < length ys = is_below ys i x e in omega arith
