@@ -15,7 +15,11 @@ use std::alloc::Global;
 fn above(what: What, most: u64, count: u64) -> Option<(What, u64)>
     ensures { result ≡ above_of what most count }
 {
-    if count > most { Some((what, count)) } else { None }
+    if count > most {
+        Some((what, count))
+    } else {
+        None
+    }
 }
 
 /// What is passed where a type in it is too large.
@@ -87,10 +91,7 @@ fn units_in(function: &Function) -> u64
     count
 }
 
-fn function_limit(
-    alloc: Global,
-    function: &Function,
-) -> Result<Option<(What, u64)>, NoMemory>
+fn function_limit(alloc: Global, function: &Function) -> Result<Option<(What, u64)>, NoMemory>
     ensures { IfOk result (λ found. found ≡ function_limit_of function.now) }
 {
     let parameters = function.params.len() as u64;
@@ -104,10 +105,7 @@ fn function_limit(
     insts_limit(alloc, function)
 }
 
-fn functions_limit(
-    alloc: Global,
-    functions: &[Function],
-) -> Result<Option<(What, u64)>, NoMemory>
+fn functions_limit(alloc: Global, functions: &[Function]) -> Result<Option<(What, u64)>, NoMemory>
     ensures { IfOk result (λ found. found ≡ functions_limit_of functions.now) }
 {
     for function in functions {
@@ -119,10 +117,7 @@ fn functions_limit(
     Ok(None)
 }
 
-fn globals_limit(
-    alloc: Global,
-    globals: &[GlobalItem],
-) -> Result<Option<(What, u64)>, NoMemory>
+fn globals_limit(alloc: Global, globals: &[GlobalItem]) -> Result<Option<(What, u64)>, NoMemory>
     ensures { IfOk result (λ found. found ≡ globals_limit_of globals.now) }
 {
     for global in globals {

@@ -298,9 +298,10 @@ module _ (program : Program) (function : Function) (ret : has_width function.ret
 
 calls_well : (module_ : Module) (at : ℕ) (insts : List Inst) → first_wrong_call module_ at insts ≡ None → Every (λ inst. wrong_callee module_ inst.gives inst.op ≡ None) insts
 calls_well module_ at [] e = tt
-calls_well module_ at (inst ∷ insts) e =
-    (unnumbered (wrong_callee module_ inst.gives inst.op) (or_none_left (numbered at (wrong_callee module_ inst.gives inst.op)) _ e),
-    calls_well module_ (at + 1) insts (or_none_right (numbered at (wrong_callee module_ inst.gives inst.op)) _ e))
+calls_well module_ at (inst ∷ insts) e = (
+  unnumbered (wrong_callee module_ inst.gives inst.op) (or_none_left (numbered at (wrong_callee module_ inst.gives inst.op)) _ e),
+  calls_well module_ (at + 1) insts (or_none_right (numbered at (wrong_callee module_ inst.gives inst.op)) _ e),
+)
   where
     unnumbered : (found : Option ℕ) → numbered at found ≡ None → found ≡ None
     unnumbered None h = refl

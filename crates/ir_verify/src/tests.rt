@@ -69,7 +69,11 @@ fn row(result: &Result<Checked, (Module, VerifyRefusal)>) -> (u32, u32, u32) {
             VerifyRefusal::BadType { function, inst } => (5, *function, *inst),
             VerifyRefusal::CallShape { inst, callee, .. } => (6, *inst, *callee),
             VerifyRefusal::PhiEdges { function, block } => (7, *function, *block),
-            VerifyRefusal::NotAssigned { value, walk, .. } => (8, *value, (walk.len() % 100) as u32),
+            VerifyRefusal::NotAssigned { value, walk, .. } => (
+                8,
+                *value,
+                (walk.len() % 100) as u32,
+            ),
             VerifyRefusal::NoMemory => (9, 0, 0),
         },
     }
@@ -80,22 +84,37 @@ fn rows_of_one_block(rt: HostRuntime) -> Result<(), Fail> {
     let alloc = rt.alloc();
     let good = one_block(
         alloc,
-        vec![in alloc; add(Operand::Num(1), Operand::Num(2)), ends(Op::Ret(Some(Operand::Value(1))))]?,
+        vec![in alloc;
+            add(Operand::Num(1), Operand::Num(2)),
+            ends(Op::Ret(Some(Operand::Value(1)))),
+        ]?,
     )?;
     assert!(rt; row(&verify(alloc, good, 4096)) == (0, 0, 0));
-    let open = one_block(alloc, vec![in alloc; add(Operand::Num(1), Operand::Num(2))]?)?;
+    let open = one_block(
+        alloc,
+        vec![in alloc; add(Operand::Num(1), Operand::Num(2))]?,
+    )?;
     assert!(rt; row(&verify(alloc, open, 4096)) == (2, 0, 0));
-    let unknown = one_block(alloc, vec![in alloc; ends(Op::Ret(Some(Operand::Value(7))))]?)?;
+    let unknown = one_block(
+        alloc,
+        vec![in alloc; ends(Op::Ret(Some(Operand::Value(7))))]?,
+    )?;
     assert!(rt; row(&verify(alloc, unknown, 4096)) == (3, 0, 0));
     let round = one_block(alloc, vec![in alloc; ends(Op::Br(0))]?)?;
     assert!(rt; row(&verify(alloc, round, 4096)) == (4, 0, 0));
-    let narrow = one_block(alloc, vec![in alloc; ends(Op::Ret(Some(Operand::Value(0))))]?)?;
+    let narrow = one_block(
+        alloc,
+        vec![in alloc; ends(Op::Ret(Some(Operand::Value(0))))]?,
+    )?;
     assert!(rt; row(&verify(alloc, narrow, 4096)) == (5, 0, 0));
     let call = Inst {
         gives: Ty::Int(64),
         op: Op::Call(0, Items::new(alloc)),
     };
-    let fewer = one_block(alloc, vec![in alloc; call, ends(Op::Ret(Some(Operand::Value(1))))]?)?;
+    let fewer = one_block(
+        alloc,
+        vec![in alloc; call, ends(Op::Ret(Some(Operand::Value(1))))]?,
+    )?;
     assert!(rt; row(&verify(alloc, fewer, 4096)) == (6, 0, 0));
     Ok(())
 }
@@ -105,7 +124,10 @@ fn one_sided(alloc: Global, join: Block) -> Result<Module, AllocError> {
     let entry = vec![in alloc; ends(Op::CondBr(Operand::Value(0), 1, 2))]?;
     let left = vec![in alloc; add(Operand::Num(1), Operand::Num(2)), ends(Op::Br(3))]?;
     let right = vec![in alloc; ends(Op::Br(3))]?;
-    module_of(alloc, vec![in alloc; block(entry), block(left), block(right), join]?)
+    module_of(
+        alloc,
+        vec![in alloc; block(entry), block(left), block(right), join]?,
+    )
 }
 
 #[test]

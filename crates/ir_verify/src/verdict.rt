@@ -194,10 +194,7 @@ fn rows(alloc: Global, all: &Module) -> Result<Option<VerifyRefusal>, NoMemory>
 }
 
 /// The first use that a walk reaches without a definition, with its function and the walk.
-fn first_unassigned(
-    alloc: Global,
-    all: &Module,
-) -> Result<Option<(u32, u32, Vec<u32>)>, NoMemory>
+fn first_unassigned(alloc: Global, all: &Module) -> Result<Option<(u32, u32, Vec<u32>)>, NoMemory>
     requires count { length all.now.functions ≤ 1024 }
     requires usable { All IsUsable all.now.functions }
     ensures { IfOk result (λ found. MatchOption found (AllUsesAssigned all.now) (λ shown. IsUnassigned all.now shown.0 shown.1 shown.2.items)) }
@@ -231,11 +228,7 @@ fn what_refuses(alloc: Global, all: &Module) -> Result<Option<VerifyRefusal>, No
 
 /// The module as a checked one where every row passes, or the module as it was with the first row that doesn't.
 /// `room` is the size of data memory in bytes: a multiple of 16 from 4,096 to 67,108,864.
-pub fn verify(
-    alloc: Global,
-    all: Module,
-    room: u64,
-) -> Result<Checked, (Module, VerifyRefusal)>
+pub fn verify(alloc: Global, all: Module, room: u64) -> Result<Checked, (Module, VerifyRefusal)>
     requires { (4096 ≤ room) × (room ≤ 67108864) × (room % 16 ≡ 0) }
     ensures checked { IfOk result (λ checked. (checked ≡ program_of all room) × Passes all) }
     ensures refused { IfErr result (λ refused. (refused.0 ≡ all) × Refuses all refused.1) }
