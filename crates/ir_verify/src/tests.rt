@@ -58,8 +58,8 @@ fn one_block(alloc: Global, insts: Vec<Inst>) -> Result<Module, AllocError> {
 }
 
 /// The row that refuses, from 1 on in the table's order, with its last two numbers; 0 where none does.
-fn row(result: &Result<Checked, (Module, VerifyRefusal)>) -> (u32, u32, u32) {
-    match result {
+fn row(answer: &Result<Checked, (Module, VerifyRefusal)>) -> (u32, u32, u32) {
+    match answer {
         Ok(_) => (0, 0, 0),
         Err((_, refusal)) => match refusal {
             VerifyRefusal::Limit { what, .. } => (1, 0, u32::from(*what == What::Units)),
