@@ -1,2 +1,7 @@
+pub mod Lists
+pub mod Usable
+pub mod Rows
+pub mod Typing
 mod Arguments
+mod Items
 mod Wide

@@ -19,7 +19,7 @@ use Rattle.ir_core.specs.Layout.{is_memory_width}
 use Rattle.ir_core.specs.Units.{instructions, types_in, values}
 use Rattle.ir_meaning.specs.Operators.{width}
 use Rattle.ir_flow.specs.Code.{places, blocks_named}
-use Rattle.ir_verify.specs.First.{first_refused, or_then}
+use Rattle.ir_limits.specs.First.{first_refused, or_then}
 
 -- an integer has a width from 1 to the greatest
 abbrev pub is_width : ℕ → Bool
@@ -69,16 +69,16 @@ all_below count [] = true
 all_below count (n ∷ ns) = nat_lt n count && all_below count ns
 
 -- the cases of a switch are numbers of its type
-abbrev pub all_cases_fit : ℕ → List (ℕ × ℕ) → Bool
-all_cases_fit w [] = true
-all_cases_fit w (one ∷ cases) = nat_lt one.0 (2 ^ w) && all_cases_fit w cases
+abbrev pub all_cases_fit : Ty → List (ℕ × ℕ) → Bool
+all_cases_fit ty [] = true
+all_cases_fit ty (one ∷ cases) = number_fits_width one.0 ty && all_cases_fit ty cases
 
 -- what else an instruction names: a function, a type of memory, the numbers of cases
 abbrev pub names_more : Module → Op → Bool
 names_more module_ (Alloca of count) = has_memory_widths of
 names_more module_ (Gep of base indices) = has_memory_widths of
 names_more module_ (Call callee arguments) = nat_lt callee (length module_.functions)
-names_more module_ (Switch of a otherwise cases) = all_cases_fit (width of) cases
+names_more module_ (Switch of a otherwise cases) = all_cases_fit of cases
 names_more module_ _ = true
 
 abbrev pub is_in_range : Module → Function → Inst → Bool
@@ -138,16 +138,19 @@ is_pointer ty = by_kind (out-MemTy ty)
     by_kind MemPtr = true
     by_kind _ = false
 
+abbrev pub is_byte : MemTy → Bool
+is_byte ty = by_kind (out-MemTy ty)
+  where
+    by_kind : MemTy-F MemTy → Bool
+    by_kind (MemInt w) = w == 8
+    by_kind _ = false
+
 -- bytes fill an array of so many integers of 8 bits
 abbrev pub bytes_fit : ℕ → MemTy → Bool
 bytes_fit count ty = by_kind (out-MemTy ty)
   where
-    is_byte : MemTy-F MemTy → Bool
-    is_byte (MemInt w) = w == 8
-    is_byte _ = false
-
     by_kind : MemTy-F MemTy → Bool
-    by_kind (Array n element) = n == count && is_byte (out-MemTy element)
+    by_kind (Array n element) = n == count && is_byte element
     by_kind _ = false
 
 abbrev pub init_step : ℕ → Init-F (MemTy → Bool) → MemTy → Bool

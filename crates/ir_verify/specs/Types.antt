@@ -19,7 +19,7 @@ use Rattle.ir_core.specs.declared.program.Function.{Function}
 use Rattle.ir_core.specs.Layout.{is_memory_width}
 use Rattle.ir_core.specs.Units.{instructions}
 use Rattle.ir_flow.specs.Code.{places}
-use Rattle.ir_verify.specs.First.{first_refused}
+use Rattle.ir_limits.specs.First.{first_refused}
 use Rattle.ir_meaning.specs.Typed.{types}
 
 abbrev pub is_void : Ty → Bool
@@ -97,11 +97,19 @@ abbrev pub is_number : Operand → Bool
 is_number (Num n) = true
 is_number _ = false
 
+abbrev pub is_zero : Operand → Bool
+is_zero (Num n) = n == 0
+is_zero _ = false
+
+-- the last argument of a memory built-in, which says that it is not volatile: `i1 false`
+abbrev pub is_false : Ty × Operand → Bool
+is_false argument = is_int_of 1 argument.0 && is_zero argument.1
+
 -- a built-in takes these arguments and gives that
 abbrev pub is_built_in : BuiltIn → List (Ty × Operand) → Ty → Bool
-is_built_in MemCpy (to ∷ from ∷ count ∷ []) ty = is_ptr to.0 && is_ptr from.0 && is_length count.0 && is_void ty
-is_built_in MemMove (to ∷ from ∷ count ∷ []) ty = is_ptr to.0 && is_ptr from.0 && is_length count.0 && is_void ty
-is_built_in MemSet (to ∷ byte ∷ count ∷ []) ty = is_ptr to.0 && is_int_of 8 byte.0 && is_length count.0 && is_void ty
+is_built_in MemCpy (to ∷ from ∷ count ∷ volatile ∷ []) ty = is_ptr to.0 && is_ptr from.0 && is_length count.0 && is_false volatile && is_void ty
+is_built_in MemMove (to ∷ from ∷ count ∷ volatile ∷ []) ty = is_ptr to.0 && is_ptr from.0 && is_length count.0 && is_false volatile && is_void ty
+is_built_in MemSet (to ∷ byte ∷ count ∷ volatile ∷ []) ty = is_ptr to.0 && is_int_of 8 byte.0 && is_length count.0 && is_false volatile && is_void ty
 is_built_in SMax (a ∷ b ∷ []) ty = is_int ty && same_type a.0 ty && same_type b.0 ty
 is_built_in SMin (a ∷ b ∷ []) ty = is_int ty && same_type a.0 ty && same_type b.0 ty
 is_built_in UMax (a ∷ b ∷ []) ty = is_int ty && same_type a.0 ty && same_type b.0 ty

@@ -5,8 +5,8 @@ use Rattle.ir_core.specs.declared.program.Module.{Module}
 use Rattle.ir_meaning.specs.Step.{Program}
 use Rattle.ir_verify.specs.declared.refusal.VerifyRefusal.{VerifyRefusal}
 use Rattle.ir_verify.specs.declared.refusal.VerifyRefusal.TheVariants.{Limit, Shape, Range, EntryEdge, BadType, CallShape, PhiEdges, NotAssigned, NoMemory}
-use Rattle.ir_verify.specs.First.{or_then, first_in}
-use Rattle.ir_verify.specs.Limits.{Passed, limit_passed}
+use Rattle.ir_limits.specs.First.{or_then, first_in}
+use Rattle.ir_limits.specs.Limits.{Passed, limit_passed}
 use Rattle.ir_verify.specs.Shapes.{misshapen, jumps_to_entry}
 use Rattle.ir_verify.specs.Ranges.{out_of_range, all_globals}
 use Rattle.ir_verify.specs.Types.{mistyped}
@@ -58,10 +58,14 @@ module _ (module_ : Module) where
       or_then (of_passed (limit_passed module_)) (or_then shape_refusal (or_then range_refusal (or_then entry_refusal
       (or_then type_refusal (or_then call_refusal phi_refusal)))))
 
+-- each use in each function is assigned
+abbrev pub AllUsesAssigned : Module → Type 0
+AllUsesAssigned module_ = (symbol : ℕ) (function : Function) → slice_get module_.functions symbol ≡ Some function → AllAssigned function
+
 -- each row passes
 pub record Passes (module_ : Module) : Type 0 where
   pub rows : refusal module_ ≡ None
-  pub assigned : (symbol : ℕ) (function : Function) → slice_get module_.functions symbol ≡ Some function → AllAssigned function
+  pub assigned : AllUsesAssigned module_
 
 -- a refusal shows the first row that doesn't pass, and what breaks it
 abbrev pub Refuses : Module → VerifyRefusal → Type 0

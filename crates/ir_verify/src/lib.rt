@@ -3,8 +3,13 @@
 
 pub mod calls;
 pub mod checked;
+pub mod inits;
+pub mod laws;
 pub mod phis;
 pub mod ranges;
 pub mod refusal;
 pub mod shapes;
+#[cfg(test)]
+mod tests;
 pub mod types;
+pub mod verdict;

@@ -1,5 +1,6 @@
 // The shape of blocks, and edges to the entry.
-ghost use Rattle.std.specs.Prelude.{◌≡◌, ℕ, ◌+◌, ◌<◌, ◌≤◌, length, map, slice_get, drop};
+ghost use Rattle.std.specs.Prelude.{◌≡◌, ℕ, ◌+◌, ◌<◌, ◌≤◌, ◌^◌, length, map, slice_get, drop};
+ghost use Rattle.ir_core.specs.Units.{instructions};
 ghost use Rattle.ir_flow.specs.Code.{is_terminator as is_terminator_op, is_phi as is_phi_op, is_alloca as is_alloca_op};
 ghost use Rattle.ir_verify.specs.Shapes.{ends_once as ends_once_in, has_no_phi as has_no_phi_in, has_phis_first as has_phis_first_in, has_no_alloca as has_no_alloca_in, has_distinct_cases as has_distinct_cases_in, all_cases_distinct as all_cases_distinct_in, are_distinct, is_among, fits_number as fits_number_in, is_shaped as is_shaped_block, first_misshapen, misshapen as misshapen_block};
 
@@ -143,7 +144,7 @@ fn is_shaped(number: u32, block: &Block) -> bool
 
 /// The first block that is misshapen.
 pub fn misshapen(function: &Function) -> Option<u32>
-    requires { length function.now.blocks ≤ 16384 }
+    requires { length (instructions function.now.blocks) < 2 ^ 32 }
     ensures { result ≡ misshapen_block function.now }
 {
     let blocks = function.blocks.as_slice();

@@ -1,12 +1,12 @@
 // The types of operands and results.
 ghost use Rattle.std.specs.Prelude.{◌≡◌, ℕ, ◌+◌, ◌^◌, ◌<◌, ◌≤◌, length, map, slice_get, drop, Option, Some, None, [], ◌∷◌, ◌++◌, IfOk, OnOk};
 ghost use Rattle.ir_flow.specs.Code.{places, typed_pairs};
-ghost use Rattle.ir_verify.specs.First.{first_refused};
+ghost use Rattle.ir_limits.specs.First.{first_refused};
 ghost use Rattle.ir_meaning.specs.Typed.{types as types_of};
 ghost use Rattle.std.specs.Option.{option_copied};
+ghost use Rattle.ir_core.specs.Layout.{is_memory_width as is_memory_width_number};
 ghost use Rattle.ir_core.specs.Units.{instructions};
-ghost use Rattle.ir_core.specs.declared.code.BuiltIn.TheVariants.{MemCpy};
-ghost use Rattle.ir_verify.specs.Types.{same_type as same_type_of, is_void as is_void_type, is_ptr as is_ptr_type, is_int as is_int_type, is_int_of as is_int_of_width, fits_place as fits_place_of, width_of as width_of_type, is_narrow as is_narrow_op, is_cast as is_cast_of, is_stored as is_stored_type, is_built_in as is_built_in_of, all_int as all_int_of, all_fit_places, field_named as field_named_in, is_returned as is_returned_of, leads_into as leads_into_type, is_part as is_part_of, gives_type as gives_type_of, is_typed as is_typed_inst, is_length as is_length_type, is_number as is_number_operand};
+ghost use Rattle.ir_verify.specs.Types.{same_type as same_type_of, is_void as is_void_type, is_ptr as is_ptr_type, is_int as is_int_type, is_int_of as is_int_of_width, fits_place as fits_place_of, width_of as width_of_type, is_narrow as is_narrow_op, is_cast as is_cast_of, is_stored as is_stored_type, is_built_in as is_built_in_of, all_int as all_int_of, all_fit_places, field_named as field_named_in, is_returned as is_returned_of, leads_into as leads_into_type, is_part as is_part_of, gives_type as gives_type_of, is_typed as is_typed_inst, is_length as is_length_type, is_number as is_number_operand, is_zero as is_zero_operand, is_false as is_false_argument};
 
 use ir_core::code::{BinOp, BuiltIn, CastOp, Inst, Op, Operand};
 use ir_core::program::Function;
@@ -107,12 +107,19 @@ fn is_cast(op: CastOp, from: Ty, to: Ty) -> bool
     }
 }
 
+/// An integer of this width can stand in memory.
+pub fn is_memory_width(width: u32) -> bool
+    ensures { result ≡ is_memory_width_number width }
+{
+    (width == 8 || width == 16 || width == 32 || width == 64 || width == 128) && width <= MAX_WIDTH
+}
+
 fn is_stored(ty: Ty) -> bool
     ensures { result ≡ is_stored_type ty }
 {
     match ty {
         Ty::Void => false,
-        Ty::Int(w) => (w == 8 || w == 16 || w == 32 || w == 64 || w == 128) && w <= MAX_WIDTH,
+        Ty::Int(w) => is_memory_width(w),
         Ty::Ptr => true,
     }
 }
@@ -132,14 +139,20 @@ fn is_number(operand: &Operand) -> bool
     }
 }
 
-fn is_move(arguments: &[(Ty, Operand)], ty: Ty) -> bool
-    ensures { result ≡ is_built_in_of MemCpy arguments.now ty }
+/// `i1 false`: a memory built-in that is not volatile.
+fn is_false(argument: &(Ty, Operand)) -> bool
+    ensures { result ≡ is_false_argument argument.now }
 {
-    arguments.len() == 3
-        && is_ptr(arguments[0].0)
-        && is_ptr(arguments[1].0)
-        && is_length(arguments[2].0)
-        && is_void(ty)
+    is_int_of(1, argument.0) && is_zero(&argument.1)
+}
+
+fn is_zero(operand: &Operand) -> bool
+    ensures { result ≡ is_zero_operand operand.now }
+{
+    match operand {
+        Operand::Num(n) => *n == 0,
+        _ => false,
+    }
 }
 
 fn are_all_int(indices: &[(Ty, Operand)]) -> bool
@@ -213,16 +226,18 @@ fn is_built_in(which: BuiltIn, arguments: &[(Ty, Operand)], ty: Ty) -> bool
 {
     match which {
         BuiltIn::MemCpy | BuiltIn::MemMove => match arguments {
-            [to, from, count] => is_ptr(to.0)
+            [to, from, count, volatile] => is_ptr(to.0)
                 && is_ptr(from.0)
                 && is_length(count.0)
+                && is_false(volatile)
                 && is_void(ty),
             _ => false,
         },
         BuiltIn::MemSet => match arguments {
-            [to, byte, count] => is_ptr(to.0)
+            [to, byte, count, volatile] => is_ptr(to.0)
                 && is_int_of(8, byte.0)
                 && is_length(count.0)
+                && is_false(volatile)
                 && is_void(ty),
             _ => false,
         },

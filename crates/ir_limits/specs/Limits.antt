@@ -13,41 +13,62 @@ use Rattle.ir_core.specs.declared.program.What.{What}
 use Rattle.ir_core.specs.declared.program.What.TheVariants.{Functions, Globals, Parameters, Units, Nodes, Size}
 use Rattle.ir_core.specs.Layout.{int_extent, pointer_extent, array_extent, struct_extent, measure}
 use Rattle.ir_core.specs.Units.{instructions, units}
-use Rattle.ir_verify.specs.First.{or_then}
+use Rattle.ir_limits.specs.declared.sizes.Measured.{Measured}
+use Rattle.ir_limits.specs.First.{or_then}
 
--- what is passed, and the count that passes it, up to the greatest number of 64 bits
+-- what is passed, and the count that passes it
 abbrev pub Passed : Type 0
 Passed = What × ℕ
 
+-- a count, up to the greatest number of 64 bits
+abbrev pub capped : ℕ → ℕ
+capped n = min n (2 ^ 64 - 1)
+
 abbrev pub above : What → ℕ → ℕ → Option Passed
-above what most count = if nat_lt most count then Some (what, min count (2 ^ 64 - 1)) else None
+above what most count = if nat_lt most count then Some (what, capped count) else None
 
--- a type's extent, and the size of the outermost type in it that takes more than 2^32 bytes
-pub record Sized : Type 0 where
-  pub extent : Extent
-  pub passing : Option ℕ
+-- ---- types of memory
 
-abbrev pub first_passing : List Sized → Option ℕ
+-- how many types a type of memory is made of, itself with them
+abbrev pub nodes : MemTy → ℕ
+nodes ty = (measure ty).nodes
+
+-- a type's extent, and the size of the outermost type in it that takes more than 2^32 bytes, the first of its parts before the others
+abbrev pub first_passing : List Measured → Option ℕ
 first_passing [] = None
 first_passing (part ∷ parts) = or_then part.passing (first_passing parts)
 
-abbrev pub whole_or_parts : Extent → List Sized → Sized
-whole_or_parts extent parts =
-    record { extent = extent; passing = if nat_lt (2 ^ 32) extent.size then Some extent.size else first_passing parts }
+abbrev pub own_or_parts : ℕ → Option ℕ → Option ℕ
+own_or_parts size parts = if nat_lt (2 ^ 32) size then Some size else parts
 
-abbrev pub sized_step : MemTy-F Sized → Sized
-sized_step (Int w) = whole_or_parts (int_extent w) []
-sized_step Ptr = whole_or_parts pointer_extent []
-sized_step (Array count element) = whole_or_parts (array_extent count element.extent) (element ∷ [])
-sized_step (Struct fields packed) = whole_or_parts (struct_extent (map (λ f. f.extent) fields) packed) fields
+abbrev pub measured_with : Extent → List Measured → Measured
+measured_with extent parts = record { extent = extent; passing = own_or_parts extent.size (first_passing parts) }
+
+abbrev pub extents_of : List Measured → List Extent
+extents_of = map (λ part. part.extent)
+
+abbrev pub measured_step : MemTy-F Measured → Measured
+measured_step (Int w) = measured_with (int_extent w) []
+measured_step Ptr = measured_with pointer_extent []
+measured_step (Array count element) = measured_with (array_extent count element.extent) (element ∷ [])
+measured_step (Struct fields packed) = measured_with (struct_extent (extents_of fields) packed) fields
+
+abbrev pub measured : MemTy → Measured
+measured = fold-MemTy Measured measured_step
+
+abbrev pub capped_passing : Option ℕ → Option ℕ
+capped_passing None = None
+capped_passing (Some size) = Some (capped size)
 
 abbrev pub shown_size : Option ℕ → Option Passed
 shown_size None = None
-shown_size (Some size) = Some (Size, min size (2 ^ 64 - 1))
+shown_size (Some size) = Some (Size, size)
 
 -- a type of memory has at most 4,096 nodes, and it and the types inside take at most 2^32 bytes
 abbrev pub type_limit : MemTy → Option Passed
-type_limit ty = or_then (above Nodes 4096 (measure ty).nodes) (shown_size (fold-MemTy Sized sized_step ty).passing)
+type_limit ty = or_then (above Nodes 4096 (nodes ty)) (shown_size (capped_passing (measured ty).passing))
+
+-- ---- instructions, functions and globals
 
 abbrev pub op_limit : Op → Option Passed
 op_limit (Alloca of count) = type_limit of

@@ -1,0 +1,19 @@
+use Rattle.std.proofs.Common.{◌≡◌, ◌+◌, ◌++◌, length, drop, map, replicate}
+use Rattle.ir_core.specs.Units.{instructions}
+use Rattle.ir_limits.specs.First.{first_refused}
+use Rattle.ir_verify.specs.Ranges.{is_in_range}
+use Rattle.ir_verify.proofs.ranges.out_of_range.Given as goal
+
+abbrev pub invariant-loop-block : goal.invariant-loop-block
+invariant-loop-block l = record {
+  same : first_refused (is_in_range l.all l.fn.function) l.at (instructions (drop l.block-index l.block-items))
+      ≡ first_refused (is_in_range l.all l.fn.function) 0 (instructions l.fn.function.blocks);
+  count : l.at + length (instructions (drop l.block-index l.block-items)) ≡ length (instructions l.fn.function.blocks);
+}
+
+abbrev pub invariant-loop-inst : goal.invariant-loop-inst
+invariant-loop-inst l = record {
+  same : first_refused (is_in_range l.all l.fn.function) l.at (drop l.inst-index l.inst-items ++ instructions (drop (l.block-index + 1) l.block-items))
+      ≡ first_refused (is_in_range l.all l.fn.function) 0 (instructions l.fn.function.blocks);
+  count : l.at + length (drop l.inst-index l.inst-items ++ instructions (drop (l.block-index + 1) l.block-items)) ≡ length (instructions l.fn.function.blocks);
+}
