@@ -7,8 +7,9 @@ ghost use Rattle.code_epochs.specs.Sound.{At, HasPassed, start_of};
 ghost use Rattle.code_epochs.specs.Steps.{unlinked, linked_of, with_status};
 ghost use Rattle.code_space.specs.Space.{HasRoom, count_free};
 ghost use Rattle.version_shelf.specs.Shelf.{NoneFree, IsApart, count_staying};
-ghost use Rattle.redirect_cells.specs.Kept.{meaning_of, book_of, draft_at};
+ghost use Rattle.redirect_cells.specs.Kept.{meaning_of, book_of, draft_at, joined_view, word_in, JoinedBacked};
 
+use crate::hart_seat::HartSeat;
 use crate::keeper_seat::KeeperSeat;
 use code_epochs::{PublishRefusal, Status, VersionState, marks};
 use rj_num::NoMemory;
@@ -77,6 +78,22 @@ impl<'a> Keeper<'a> {
         ensures { (n : ℕ) (v : VersionState) → At self.now.shelf.current.items symbol (n + 1) → At self.now.shelf.versions.items n v → result ≡ v.level }
     {
         self.linked(symbol).level
+    }
+
+    /// The number of words of the linked version of a symbol.
+    pub fn words(&self, symbol: u32) -> u32
+        requires { (n : ℕ) × At self.now.shelf.current.items symbol (n + 1) }
+        ensures { (n : ℕ) (v : VersionState) → At self.now.shelf.current.items symbol (n + 1) → At self.now.shelf.versions.items n v → result ≡ v.words }
+    {
+        self.linked(symbol).words
+    }
+
+    /// The base of the linked version of a symbol.
+    pub fn base(&self, symbol: u32) -> u64
+        requires { (n : ℕ) × At self.now.shelf.current.items symbol (n + 1) }
+        ensures { (n : ℕ) (v : VersionState) → At self.now.shelf.current.items symbol (n + 1) → At self.now.shelf.versions.items n v → result ≡ v.base }
+    {
+        self.linked(symbol).base
     }
 
     /// The number of versions.
@@ -256,5 +273,17 @@ impl<'a> Keeper<'a> {
             }
         }
         given_up
+    }
+
+    /// Takes in an idle hart's seat. The ended passes of all seats that were taken in are backed by the keeper's versions.
+    pub fn take_in(&mut self, seat: HartSeat<'_>)
+        requires table { seat.table.now.table.shared.table_id ≡ self.old.seat.table.now.table.shared.table_id }
+        requires idle { word_in seat.seat.me.0.role ≡ 0 }
+        ensures table { self.new.seat.table ≡ self.old.seat.table }
+        ensures joined { self.new.seat.seat.me.0 ≡ joined_view self.old.seat.seat.me.0 seat.entry.seat.me.0 }
+        ensures shelf { self.new.shelf ≡ self.old.shelf }
+        ensures backed { JoinedBacked self.new.seat.seat.me.0 }
+    {
+        self.seat.join(seat);
     }
 }
