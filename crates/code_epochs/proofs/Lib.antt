@@ -1,0 +1,10 @@
+pub mod Lists
+pub mod Harts
+pub mod Idle
+pub mod Keeper
+pub mod Swap
+pub mod Seats
+pub mod Epochs
+pub mod Marked
+pub mod First
+pub mod Good

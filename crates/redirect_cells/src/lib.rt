@@ -1,0 +1,15 @@
+//! The code table that threads share, its harts' seats and its keeper.
+#![tactic(auto)]
+
+mod hart_seat;
+mod keeper;
+mod keeper_seat;
+mod plays;
+mod table;
+mod view;
+
+pub use hart_seat::HartSeat;
+pub use keeper::Keeper;
+pub use keeper_seat::KeeperSeat;
+pub use table::{CodeTable, Opening};
+pub use view::{HartView, Plan, Role, View};
