@@ -1,2 +1,7 @@
 //! The module of a text.
 #![tactic(auto)]
+
+mod instructions;
+mod lists;
+mod operands;
+mod scope;
