@@ -1,5 +1,5 @@
 -- What instructions say.
-use Rattle.std.specs.Prelude.{◌≡◌, ℕ, ◌+◌, Bool, true, false, not, ◌&&◌, List, [], ◌∷◌, ◌++◌, codes, Option, Some, None, Result, Ok, Err, if◌then◌else◌}
+use Rattle.std.specs.Prelude.{◌≡◌, ℕ, ◌+◌, Bool, true, false, not, ◌&&◌, nat_eq, List, [], ◌∷◌, ◌++◌, codes, Option, Some, None, Result, Ok, Err, if◌then◌else◌}
 use Rattle.std.specs.List.{starts_with}
 use Rattle.std.specs.Str.{bytes_eq}
 use Rattle.ir_text.specs.declared.name.Name.{Name}
@@ -26,11 +26,10 @@ use Rattle.ir_names.specs.declared.tables.Target.{Target}
 use Rattle.ir_names.specs.declared.tables.Target.TheVariants as targets
 use Rattle.ir_names.specs.Walk.{◌>>=◌, walk}
 use Rattle.ir_reader.specs.declared.scope.Table.{Table}
-use Rattle.ir_reader.specs.declared.scope.Outer.{Outer}
 use Rattle.ir_reader.specs.declared.lists.TypedList.{TypedList}
 use Rattle.ir_reader.specs.declared.lists.IncomingList.{IncomingList}
 use Rattle.ir_reader.specs.declared.lists.CaseList.{CaseList}
-use Rattle.ir_reader.specs.Names.{named_target}
+use Rattle.ir_reader.specs.Names.{Symbols, named_target}
 use Rattle.ir_reader.specs.Operands.{type_of, is_ty, operand, typed, typed_as, block_of, place_of_value}
 
 -- the type of an instruction's result; `void` where it has none
@@ -53,22 +52,22 @@ result_type (operations.Switch value otherwise cases) = Ok values.Void
 result_type operations.Unreachable = Ok values.Void
 
 -- one more of typed operands
-abbrev pub typed_step : Outer → Table → TypedList → Typed → Result TypedList Fault
-typed_step outer table before given = typed outer table given.ty given.value >>= λ one. Ok (record { all = before.all ++ one ∷ [] })
+abbrev pub typed_step : Symbols → Table → TypedList → Typed → Result TypedList Fault
+typed_step symbols table before given = typed symbols table given.ty given.value >>= λ one. Ok (record { all = before.all ++ one ∷ [] })
 
 -- typed operands one by one
-unfoldable pub typed_list : Outer → Table → List Typed → Result (List (Ty × Operand)) Fault
-typed_list outer table given = walk (typed_step outer table) (record { all = [] }) given >>= λ list. Ok list.all
+unfoldable pub typed_list : Symbols → Table → List Typed → Result (List (Ty × Operand)) Fault
+typed_list symbols table given = walk (typed_step symbols table) (record { all = [] }) given >>= λ list. Ok list.all
 
 -- one more operand of a phi, with its block
-abbrev pub incoming_step : Outer → Table → IncomingList → Incoming → Result IncomingList Fault
-incoming_step outer table before given = do
-  value ← operand outer table before.ty given.value
+abbrev pub incoming_step : Symbols → Table → IncomingList → Incoming → Result IncomingList Fault
+incoming_step symbols table before given = do
+  value ← operand symbols table before.ty given.value
   block ← block_of table given.block
   Ok (record { ty = before.ty; all = before.all ++ (value, block) ∷ [] })
 
-unfoldable pub incoming_list : Outer → Table → Ty → List Incoming → Result (List (Operand × ℕ)) Fault
-incoming_list outer table ty given = walk (incoming_step outer table) (record { ty = ty; all = [] }) given >>= λ list. Ok list.all
+unfoldable pub incoming_list : Symbols → Table → Ty → List Incoming → Result (List (Operand × ℕ)) Fault
+incoming_list symbols table ty given = walk (incoming_step symbols table) (record { ty = ty; all = [] }) given >>= λ list. Ok list.all
 
 -- the number of an operand that is one
 abbrev pub case_number : ℕ → Operand → Result ℕ Fault
@@ -79,58 +78,58 @@ case_number left (operands.Place global offset) = Err (faults.Syntax left)
 case_number left operands.Poison = Err (faults.Syntax left)
 
 -- `T NUMBER` of a case
-unfoldable pub case_value : Outer → Table → Ty → Case → Result ℕ Fault
-case_value outer table ty given = do
-  value ← typed_as outer table ty given.ty given.value
+unfoldable pub case_value : Symbols → Table → Ty → Case → Result ℕ Fault
+case_value symbols table ty given = do
+  value ← typed_as symbols table ty given.ty given.value
   case_number (place_of_value given.value) value
 
-abbrev pub case_step : Outer → Table → CaseList → Case → Result CaseList Fault
-case_step outer table before given = do
-  number ← case_value outer table before.ty given
+abbrev pub case_step : Symbols → Table → CaseList → Case → Result CaseList Fault
+case_step symbols table before given = do
+  number ← case_value symbols table before.ty given
   block ← block_of table given.block
   Ok (record { ty = before.ty; all = before.all ++ (number, block) ∷ [] })
 
-unfoldable pub case_list : Outer → Table → Ty → List Case → Result (List (ℕ × ℕ)) Fault
-case_list outer table ty given = walk (case_step outer table) (record { ty = ty; all = [] }) given >>= λ list. Ok list.all
+unfoldable pub case_list : Symbols → Table → Ty → List Case → Result (List (ℕ × ℕ)) Fault
+case_list symbols table ty given = walk (case_step symbols table) (record { ty = ty; all = [] }) given >>= λ list. Ok list.all
 
-unfoldable pub binary : Outer → Table → BinOp → Flags → Typed → Value → Result Op Fault
-binary outer table operator flags left right = do
-  a ← typed outer table left.ty left.value
-  b ← operand outer table a.0 right
+unfoldable pub binary : Symbols → Table → BinOp → Flags → Typed → Value → Result Op Fault
+binary symbols table operator flags left right = do
+  a ← typed symbols table left.ty left.value
+  b ← operand symbols table a.0 right
   Ok (core.Binary operator flags a.1 b)
 
-unfoldable pub comparison : Outer → Table → Pred → Flags → Typed → Value → Result Op Fault
-comparison outer table predicate flags left right = do
-  a ← typed outer table left.ty left.value
-  b ← operand outer table a.0 right
+unfoldable pub comparison : Symbols → Table → Pred → Flags → Typed → Value → Result Op Fault
+comparison symbols table predicate flags left right = do
+  a ← typed symbols table left.ty left.value
+  b ← operand symbols table a.0 right
   Ok (core.Icmp predicate flags a.0 a.1 b)
 
-unfoldable pub cast : Outer → Table → CastOp → Flags → Typed → Result Op Fault
-cast outer table operator flags value = typed outer table value.ty value.value >>= λ a. Ok (core.Cast operator flags a.0 a.1)
+unfoldable pub cast : Symbols → Table → CastOp → Flags → Typed → Result Op Fault
+cast symbols table operator flags value = typed symbols table value.ty value.value >>= λ a. Ok (core.Cast operator flags a.0 a.1)
 
-unfoldable pub selection : Outer → Table → Typed → Typed → Typed → Result Op Fault
-selection outer table condition left right = do
-  c ← typed_as outer table (values.Int 1) condition.ty condition.value
-  a ← typed outer table left.ty left.value
-  b ← typed_as outer table a.0 right.ty right.value
+unfoldable pub selection : Symbols → Table → Typed → Typed → Typed → Result Op Fault
+selection symbols table condition left right = do
+  c ← typed_as symbols table (values.Int 1) condition.ty condition.value
+  a ← typed symbols table left.ty left.value
+  b ← typed_as symbols table a.0 right.ty right.value
   Ok (core.Select c a.1 b)
 
-unfoldable pub freezing : Outer → Table → Typed → Result Op Fault
-freezing outer table value = typed outer table value.ty value.value >>= λ a. Ok (core.Freeze a.1)
+unfoldable pub freezing : Symbols → Table → Typed → Result Op Fault
+freezing symbols table value = typed symbols table value.ty value.value >>= λ a. Ok (core.Freeze a.1)
 
-unfoldable pub phi : Outer → Table → List TypeNode → List Incoming → Result Op Fault
-phi outer table given incoming = do
+unfoldable pub phi : Symbols → Table → List TypeNode → List Incoming → Result Op Fault
+phi symbols table given incoming = do
   ty ← type_of given
-  all ← incoming_list outer table ty incoming
+  all ← incoming_list symbols table ty incoming
   Ok (core.Phi all)
 
-unfoldable pub loading : Outer → Table → Typed → Result Op Fault
-loading outer table from = typed_as outer table values.Ptr from.ty from.value >>= λ a. Ok (core.Load a)
+unfoldable pub loading : Symbols → Table → Typed → Result Op Fault
+loading symbols table from = typed_as symbols table values.Ptr from.ty from.value >>= λ a. Ok (core.Load a)
 
-unfoldable pub storing : Outer → Table → Typed → Typed → Result Op Fault
-storing outer table value into = do
-  a ← typed outer table value.ty value.value
-  b ← typed_as outer table values.Ptr into.ty into.value
+unfoldable pub storing : Symbols → Table → Typed → Typed → Result Op Fault
+storing symbols table value into = do
+  a ← typed symbols table value.ty value.value
+  b ← typed_as symbols table values.Ptr into.ty into.value
   Ok (core.Store a.0 a.1 b)
 
 -- a function; a global's name is an indirect callee
@@ -141,63 +140,63 @@ callee_number left (targets.Value n) = Err (faults.Name left)
 callee_number left (targets.Block n) = Err (faults.Name left)
 callee_number left (targets.Type n) = Err (faults.Name left)
 
-unfoldable pub direct_call : Outer → Table → Name → List Typed → Result Op Fault
-direct_call outer table callee arguments = do
-  target ← named_target outer.symbols callee
+unfoldable pub direct_call : Symbols → Table → Name → List Typed → Result Op Fault
+direct_call symbols table callee arguments = do
+  target ← named_target symbols callee
   n ← callee_number callee.left target
-  all ← typed_list outer table arguments
+  all ← typed_list symbols table arguments
   Ok (core.Call n all)
 
 -- an indirect callee is left out, and so is a name of LLVM's own
-unfoldable pub call : Outer → Table → Bool → Name → List Typed → Result Op Fault
-call outer table is_local callee arguments =
+unfoldable pub call : Symbols → Table → Bool → Name → List Typed → Result Op Fault
+call symbols table is_local callee arguments =
     if is_local then Err (faults.LeftOut callee.left)
-    else if starts_with (codes "llvm.") callee.bytes then Err (faults.LeftOut callee.left)
-    else direct_call outer table callee arguments
+    else if starts_with nat_eq callee.bytes (codes "llvm.") then Err (faults.LeftOut callee.left)
+    else direct_call symbols table callee arguments
 
 abbrev pub returned_type : Ty → List TypeNode → Result Bool Fault
 returned_type ret given = type_of given >>= λ ty. Ok (is_ty ty ret && not (is_ty ty values.Void))
 
-unfoldable pub returning : Outer → Table → Ty → List TypeNode → Value → Result Op Fault
-returning outer table ret given value = do
+unfoldable pub returning : Symbols → Table → Ty → List TypeNode → Value → Result Op Fault
+returning symbols table ret given value = do
   fits ← returned_type ret given
-  if fits then (operand outer table ret value >>= λ a. Ok (core.Ret (Some a))) else Err (faults.Syntax (place_of_value value))
+  if fits then (operand symbols table ret value >>= λ a. Ok (core.Ret (Some a))) else Err (faults.Syntax (place_of_value value))
 
-abbrev pub ret : Outer → Table → Ty → List TypeNode → Option Value → Result Op Fault
-ret outer table ty given (Some value) = returning outer table ty given value
-ret outer table ty given None = Ok (core.Ret None)
+abbrev pub ret : Symbols → Table → Ty → List TypeNode → Option Value → Result Op Fault
+ret symbols table ty given (Some value) = returning symbols table ty given value
+ret symbols table ty given None = Ok (core.Ret None)
 
 abbrev pub jump : Table → Name → Result Op Fault
 jump table name = block_of table name >>= λ n. Ok (core.Br n)
 
-unfoldable pub fork : Outer → Table → Typed → Name → Name → Result Op Fault
-fork outer table condition left right = do
-  c ← typed_as outer table (values.Int 1) condition.ty condition.value
+unfoldable pub fork : Symbols → Table → Typed → Name → Name → Result Op Fault
+fork symbols table condition left right = do
+  c ← typed_as symbols table (values.Int 1) condition.ty condition.value
   a ← block_of table left
   b ← block_of table right
   Ok (core.CondBr c a b)
 
-unfoldable pub switching : Outer → Table → Typed → Name → List Case → Result Op Fault
-switching outer table value otherwise cases = do
-  a ← typed outer table value.ty value.value
+unfoldable pub switching : Symbols → Table → Typed → Name → List Case → Result Op Fault
+switching symbols table value otherwise cases = do
+  a ← typed symbols table value.ty value.value
   block ← block_of table otherwise
-  all ← case_list outer table a.0 cases
+  all ← case_list symbols table a.0 cases
   Ok (core.Switch a.0 a.1 block all)
 
-unfoldable pub operation : Outer → Table → Ty → ℕ → Operation → Result Op Fault
-operation outer table ty left (operations.Binary operator flags a b) = binary outer table operator flags a b
-operation outer table ty left (operations.Icmp flags predicate a b) = comparison outer table predicate flags a b
-operation outer table ty left (operations.Cast operator flags value target) = cast outer table operator flags value
-operation outer table ty left (operations.Select condition a b) = selection outer table condition a b
-operation outer table ty left (operations.Freeze value) = freezing outer table value
-operation outer table ty left (operations.Phi given incoming) = phi outer table given incoming
-operation outer table ty left (operations.Alloca place given count) = Err (faults.Syntax place)
-operation outer table ty left (operations.Load given from) = loading outer table from
-operation outer table ty left (operations.Store value into) = storing outer table value into
-operation outer table ty left (operations.Gep given base offsets) = Err (faults.Syntax left)
-operation outer table ty left (operations.Call given is_local callee arguments) = call outer table is_local callee arguments
-operation outer table ty left (operations.Ret given value) = ret outer table ty given value
-operation outer table ty left (operations.Br block) = jump table block
-operation outer table ty left (operations.CondBr condition a b) = fork outer table condition a b
-operation outer table ty left (operations.Switch value otherwise cases) = switching outer table value otherwise cases
-operation outer table ty left operations.Unreachable = Ok core.Unreachable
+unfoldable pub operation : Symbols → Table → Ty → ℕ → Operation → Result Op Fault
+operation symbols table ty left (operations.Binary operator flags a b) = binary symbols table operator flags a b
+operation symbols table ty left (operations.Icmp flags predicate a b) = comparison symbols table predicate flags a b
+operation symbols table ty left (operations.Cast operator flags value target) = cast symbols table operator flags value
+operation symbols table ty left (operations.Select condition a b) = selection symbols table condition a b
+operation symbols table ty left (operations.Freeze value) = freezing symbols table value
+operation symbols table ty left (operations.Phi given incoming) = phi symbols table given incoming
+operation symbols table ty left (operations.Alloca place given count) = Err (faults.Syntax place)
+operation symbols table ty left (operations.Load given from) = loading symbols table from
+operation symbols table ty left (operations.Store value into) = storing symbols table value into
+operation symbols table ty left (operations.Gep given base offsets) = Err (faults.Syntax left)
+operation symbols table ty left (operations.Call given is_local callee arguments) = call symbols table is_local callee arguments
+operation symbols table ty left (operations.Ret given value) = ret symbols table ty given value
+operation symbols table ty left (operations.Br block) = jump table block
+operation symbols table ty left (operations.CondBr condition a b) = fork symbols table condition a b
+operation symbols table ty left (operations.Switch value otherwise cases) = switching symbols table value otherwise cases
+operation symbols table ty left operations.Unreachable = Ok core.Unreachable

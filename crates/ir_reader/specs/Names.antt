@@ -33,6 +33,10 @@ number_of name = or_fault (faults.Syntax name.left) (small_number (natural name.
 unfoldable pub numbered_target : Table → Name → Result Target Fault
 numbered_target table name = number_of name >>= λ n. or_fault (faults.Name name.left) (target_numbered n table.numbered)
 
+-- the names of globals and functions, with what they stand for
+abbrev pub Symbols : Type 0
+Symbols = List (List ℕ × Target)
+
 -- what a name stands for by its bytes
 unfoldable pub named_target : List (List ℕ × Target) → Name → Result Target Fault
 named_target named name = bytes_of name >>= λ bytes. or_fault (faults.Name name.left) (target_named bytes named)

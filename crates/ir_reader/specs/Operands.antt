@@ -1,6 +1,5 @@
 -- What types of values, numbers and operands say.
 use Rattle.std.specs.Prelude.{◌≡◌, ℕ, Bool, true, false, not, nat_eq, nat_le, List, [], ◌∷◌, Option, Some, None, Result, Ok, Err, if◌then◌else◌}
-use Rattle.std.specs.Option.{option_bind}
 use Rattle.ir_text.specs.declared.name.Name.{Name}
 use Rattle.ir_text.specs.declared.name.Number.{Number}
 use Rattle.ir_tree.specs.declared.tree.TypeNode.{TypeNode}
@@ -21,8 +20,7 @@ use Rattle.ir_names.specs.declared.tables.Target.TheVariants as targets
 use Rattle.ir_names.specs.Walk.{◌>>=◌, or_fault}
 use Rattle.ir_names.specs.Numbers.{natural, literal}
 use Rattle.ir_reader.specs.declared.scope.Table.{Table}
-use Rattle.ir_reader.specs.declared.scope.Outer.{Outer}
-use Rattle.ir_reader.specs.Names.{target_of, named_target}
+use Rattle.ir_reader.specs.Names.{Symbols, target_of, named_target}
 
 -- an integer of a width: 0 is none, and one that is too wide is left out
 abbrev pub integer : ℕ → Option ℕ → Result Ty Fault
@@ -56,9 +54,13 @@ is_ty values.Ptr (values.Int v) = false
 is_ty (values.Int w) values.Void = false
 is_ty (values.Int w) values.Ptr = false
 
+abbrev pub literal_from : ℕ → Bool → Option ℕ → Option ℕ
+literal_from w is_negative None = None
+literal_from w is_negative (Some n) = literal w is_negative n
+
 -- a number of a width
 unfoldable pub literal_of : Number → ℕ → Result ℕ Fault
-literal_of number w = or_fault (faults.Syntax number.left) (option_bind (literal w number.is_negative) (natural number.digits))
+literal_of number w = or_fault (faults.Syntax number.left) (literal_from w number.is_negative (natural number.digits))
 
 abbrev pub number_operand : Ty → Number → Result Operand Fault
 number_operand (values.Int w) number = literal_of number w >>= λ n. Ok (operands.Num n)
@@ -106,32 +108,32 @@ block_of table name = do
   block_number name.left target
 
 -- a constant place
-unfoldable pub place_operand : Outer → Address → Result Operand Fault
-place_operand outer address = do
-  target ← named_target outer.symbols address.name
+unfoldable pub place_operand : Symbols → Address → Result Operand Fault
+place_operand symbols address = do
+  target ← named_target symbols address.name
   n ← global_number address.name.left target
   Ok (operands.Place n 0)
 
-abbrev pub address_operand : Outer → Ty → Address → Result Operand Fault
-address_operand outer values.Ptr address = place_operand outer address
-address_operand outer values.Void address = Err (faults.Syntax address.left)
-address_operand outer (values.Int w) address = Err (faults.Syntax address.left)
+abbrev pub address_operand : Symbols → Ty → Address → Result Operand Fault
+address_operand symbols values.Ptr address = place_operand symbols address
+address_operand symbols values.Void address = Err (faults.Syntax address.left)
+address_operand symbols (values.Int w) address = Err (faults.Syntax address.left)
 
 -- an operand of a type
-unfoldable pub operand : Outer → Table → Ty → Value → Result Operand Fault
-operand outer table ty (written.Local name) = local_operand table name
-operand outer table ty (written.Number number) = number_operand ty number
-operand outer table ty (written.True left) = where_ty (is_ty ty (values.Int 1)) left (operands.Num 1)
-operand outer table ty (written.False left) = where_ty (is_ty ty (values.Int 1)) left (operands.Num 0)
-operand outer table ty (written.Null left) = where_ty (is_ty ty values.Ptr) left operands.Null
-operand outer table ty (written.Poison left) = where_ty (not (is_ty ty values.Void)) left operands.Poison
-operand outer table ty (written.Address address) = address_operand outer ty address
+unfoldable pub operand : Symbols → Table → Ty → Value → Result Operand Fault
+operand symbols table ty (written.Local name) = local_operand table name
+operand symbols table ty (written.Number number) = number_operand ty number
+operand symbols table ty (written.True left) = where_ty (is_ty ty (values.Int 1)) left (operands.Num 1)
+operand symbols table ty (written.False left) = where_ty (is_ty ty (values.Int 1)) left (operands.Num 0)
+operand symbols table ty (written.Null left) = where_ty (is_ty ty values.Ptr) left operands.Null
+operand symbols table ty (written.Poison left) = where_ty (not (is_ty ty values.Void)) left operands.Poison
+operand symbols table ty (written.Address address) = address_operand symbols ty address
 
 -- `T V`
-unfoldable pub typed : Outer → Table → List TypeNode → Value → Result (Ty × Operand) Fault
-typed outer table nodes given = do
+unfoldable pub typed : Symbols → Table → List TypeNode → Value → Result (Ty × Operand) Fault
+typed symbols table nodes given = do
   ty ← type_of nodes
-  value ← operand outer table ty given
+  value ← operand symbols table ty given
   Ok (ty, value)
 
 -- where something of a type begins, by how much is left
@@ -145,7 +147,7 @@ place_of_value (written.Poison left) = left
 place_of_value (written.Address address) = address.left
 
 -- `T V` where T is known
-unfoldable pub typed_as : Outer → Table → Ty → List TypeNode → Value → Result Operand Fault
-typed_as outer table ty nodes given = do
-  value ← typed outer table nodes given
+unfoldable pub typed_as : Symbols → Table → Ty → List TypeNode → Value → Result Operand Fault
+typed_as symbols table ty nodes given = do
+  value ← typed symbols table nodes given
   where_ty (is_ty value.0 ty) (place_of_value given) value.1

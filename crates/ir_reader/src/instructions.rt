@@ -40,7 +40,7 @@ fn binary(
     left: &Typed,
     right: &Value,
 ) -> Result<Op, Fault>
-    ensures { Gives (λ op. op) result (binary outer.now table.now operator flags left.now right.now) }
+    ensures { Gives (λ op. op) result (binary outer.now.symbols table.now operator flags left.now right.now) }
 {
     let (ty, a) = typed(outer, table, left.ty.as_slice(), &left.value)?;
     let b = operand(outer, table, ty, right)?;
@@ -56,7 +56,7 @@ fn comparison(
     left: &Typed,
     right: &Value,
 ) -> Result<Op, Fault>
-    ensures { Gives (λ op. op) result (comparison outer.now table.now predicate flags left.now right.now) }
+    ensures { Gives (λ op. op) result (comparison outer.now.symbols table.now predicate flags left.now right.now) }
 {
     let (ty, a) = typed(outer, table, left.ty.as_slice(), &left.value)?;
     let b = operand(outer, table, ty, right)?;
@@ -71,7 +71,7 @@ fn cast(
     flags: Flags,
     value: &Typed,
 ) -> Result<Op, Fault>
-    ensures { Gives (λ op. op) result (cast outer.now table.now operator flags value.now) }
+    ensures { Gives (λ op. op) result (cast outer.now.symbols table.now operator flags value.now) }
 {
     let (ty, a) = typed(outer, table, value.ty.as_slice(), &value.value)?;
     Ok(Op::Cast(operator, flags, ty, a))
@@ -85,7 +85,7 @@ fn selection(
     left: &Typed,
     right: &Typed,
 ) -> Result<Op, Fault>
-    ensures { Gives (λ op. op) result (selection outer.now table.now condition.now left.now right.now) }
+    ensures { Gives (λ op. op) result (selection outer.now.symbols table.now condition.now left.now right.now) }
 {
     let c = typed_as(outer, table, Ty::Int(1), condition.ty.as_slice(), &condition.value)?;
     let (ty, a) = typed(outer, table, left.ty.as_slice(), &left.value)?;
@@ -95,7 +95,7 @@ fn selection(
 
 #[tactic(auto, unfolding(crate::specs::Instructions::freezing))]
 fn freezing(outer: &Outer, table: &Table, value: &Typed) -> Result<Op, Fault>
-    ensures { Gives (λ op. op) result (freezing outer.now table.now value.now) }
+    ensures { Gives (λ op. op) result (freezing outer.now.symbols table.now value.now) }
 {
     let (_, a) = typed(outer, table, value.ty.as_slice(), &value.value)?;
     Ok(Op::Freeze(a))
@@ -108,7 +108,7 @@ fn phi(
     given: &[TypeNode],
     incoming: &[Incoming],
 ) -> Result<Op, Fault>
-    ensures { Gives (λ op. op) result (phi outer.now table.now given.now incoming.now) }
+    ensures { Gives (λ op. op) result (phi outer.now.symbols table.now given.now incoming.now) }
 {
     let ty = type_of(given)?;
     let all = incoming_list(outer, table, ty, incoming)?;
@@ -117,7 +117,7 @@ fn phi(
 
 #[tactic(auto, unfolding(crate::specs::Instructions::loading))]
 fn loading(outer: &Outer, table: &Table, from: &Typed) -> Result<Op, Fault>
-    ensures { Gives (λ op. op) result (loading outer.now table.now from.now) }
+    ensures { Gives (λ op. op) result (loading outer.now.symbols table.now from.now) }
 {
     let a = typed_as(outer, table, Ty::Ptr, from.ty.as_slice(), &from.value)?;
     Ok(Op::Load(a))
@@ -125,7 +125,7 @@ fn loading(outer: &Outer, table: &Table, from: &Typed) -> Result<Op, Fault>
 
 #[tactic(auto, unfolding(crate::specs::Instructions::storing))]
 fn storing(outer: &Outer, table: &Table, value: &Typed, into: &Typed) -> Result<Op, Fault>
-    ensures { Gives (λ op. op) result (storing outer.now table.now value.now into.now) }
+    ensures { Gives (λ op. op) result (storing outer.now.symbols table.now value.now into.now) }
 {
     let (ty, a) = typed(outer, table, value.ty.as_slice(), &value.value)?;
     let b = typed_as(outer, table, Ty::Ptr, into.ty.as_slice(), &into.value)?;
@@ -149,7 +149,7 @@ fn direct_call(
     callee: &Name,
     arguments: &[Typed],
 ) -> Result<Op, Fault>
-    ensures { Gives (λ op. op) result (direct_call outer.now table.now callee.now arguments.now) }
+    ensures { Gives (λ op. op) result (direct_call outer.now.symbols table.now callee.now arguments.now) }
 {
     let target = named_target(outer.alloc, &outer.symbols, callee)?;
     let number = callee_number(callee.left, target)?;
@@ -165,7 +165,7 @@ fn call(
     callee: &Name,
     arguments: &[Typed],
 ) -> Result<Op, Fault>
-    ensures { Gives (λ op. op) result (call outer.now table.now is_local callee.now arguments.now) }
+    ensures { Gives (λ op. op) result (call outer.now.symbols table.now is_local callee.now arguments.now) }
 {
     if is_local {
         return Err(Fault::LeftOut(callee.left));
@@ -191,7 +191,7 @@ fn returning(
     given: &[TypeNode],
     value: &Value,
 ) -> Result<Op, Fault>
-    ensures { Gives (λ op. op) result (returning outer.now table.now ret given.now value.now) }
+    ensures { Gives (λ op. op) result (returning outer.now.symbols table.now ret given.now value.now) }
 {
     let fits = returned_type(ret, given)?;
     if !fits {
@@ -208,7 +208,7 @@ fn ret(
     given: &[TypeNode],
     value: &Option<Value>,
 ) -> Result<Op, Fault>
-    ensures { Gives (λ op. op) result (ret outer.now table.now ty given.now value.now) }
+    ensures { Gives (λ op. op) result (ret outer.now.symbols table.now ty given.now value.now) }
 {
     match value {
         Some(value) => returning(outer, table, ty, given, value),
@@ -231,7 +231,7 @@ fn fork(
     left: &Name,
     right: &Name,
 ) -> Result<Op, Fault>
-    ensures { Gives (λ op. op) result (fork outer.now table.now condition.now left.now right.now) }
+    ensures { Gives (λ op. op) result (fork outer.now.symbols table.now condition.now left.now right.now) }
 {
     let c = typed_as(outer, table, Ty::Int(1), condition.ty.as_slice(), &condition.value)?;
     let a = block_of(outer, table, left)?;
@@ -247,7 +247,7 @@ fn switching(
     otherwise: &Name,
     cases: &[Case],
 ) -> Result<Op, Fault>
-    ensures { Gives (λ op. op) result (switching outer.now table.now value.now otherwise.now cases.now) }
+    ensures { Gives (λ op. op) result (switching outer.now.symbols table.now value.now otherwise.now cases.now) }
 {
     let (ty, a) = typed(outer, table, value.ty.as_slice(), &value.value)?;
     let block = block_of(outer, table, otherwise)?;
@@ -264,7 +264,7 @@ pub fn operation(
     left: usize,
     given: &Operation,
 ) -> Result<Op, Fault>
-    ensures { Gives (λ op. op) result (operation outer.now table.now ty left given.now) }
+    ensures { Gives (λ op. op) result (operation outer.now.symbols table.now ty left given.now) }
 {
     match given {
         Operation::Binary(operator, flags, a, b) => binary(outer, table, *operator, *flags, a, b),

@@ -1,7 +1,11 @@
 //! The module of a text.
 #![tactic(auto)]
 
+mod functions;
 mod instructions;
 mod lists;
+mod locals;
 mod operands;
 mod scope;
+
+pub use functions::module_of;

@@ -24,7 +24,7 @@ pub struct TypedList {
 }
 
 impl<'a> Step<Within<'a>, Typed> for TypedList {
-    ghost steps = { λ within. typed_step within.outer.now within.table.now };
+    ghost steps = { λ within. typed_step within.outer.now.symbols within.table.now };
 
     fn step(&mut self, within: &Within<'a>, given: &Typed) -> Result<(), Fault> {
         let one = typed(within.outer, within.table, given.ty.as_slice(), &given.value)?;
@@ -40,7 +40,7 @@ pub fn typed_list(
     table: &Table,
     given: &[Typed],
 ) -> Result<Items<(Ty, Operand)>, Fault>
-    ensures { Gives (λ all. all) result (typed_list outer.now table.now given.now) }
+    ensures { Gives (λ all. all) result (typed_list outer.now.symbols table.now given.now) }
 {
     let mut list = TypedList {
         all: Items::new(outer.alloc),
@@ -56,7 +56,7 @@ pub struct IncomingList {
 }
 
 impl<'a> Step<Within<'a>, Incoming> for IncomingList {
-    ghost steps = { λ within. incoming_step within.outer.now within.table.now };
+    ghost steps = { λ within. incoming_step within.outer.now.symbols within.table.now };
 
     fn step(&mut self, within: &Within<'a>, given: &Incoming) -> Result<(), Fault> {
         let value = operand(within.outer, within.table, self.ty, &given.value)?;
@@ -74,7 +74,7 @@ pub fn incoming_list(
     ty: Ty,
     given: &[Incoming],
 ) -> Result<Items<(Operand, u32)>, Fault>
-    ensures { Gives (λ all. all) result (incoming_list outer.now table.now ty given.now) }
+    ensures { Gives (λ all. all) result (incoming_list outer.now.symbols table.now ty given.now) }
 {
     let mut list = IncomingList {
         ty,
@@ -96,7 +96,7 @@ fn case_number(left: usize, operand: Operand) -> Result<u128, Fault>
 /// `T NUMBER` of a case.
 #[tactic(auto, unfolding(crate::specs::Instructions::case_value))]
 fn case_value(outer: &Outer, table: &Table, ty: Ty, given: &Case) -> Result<u128, Fault>
-    ensures { Gives (λ number. number) result (case_value outer.now table.now ty given.now) }
+    ensures { Gives (λ number. number) result (case_value outer.now.symbols table.now ty given.now) }
 {
     let value = typed_as(outer, table, ty, given.ty.as_slice(), &given.value)?;
     case_number(place_of_value(&given.value), value)
@@ -109,7 +109,7 @@ pub struct CaseList {
 }
 
 impl<'a> Step<Within<'a>, Case> for CaseList {
-    ghost steps = { λ within. case_step within.outer.now within.table.now };
+    ghost steps = { λ within. case_step within.outer.now.symbols within.table.now };
 
     fn step(&mut self, within: &Within<'a>, given: &Case) -> Result<(), Fault> {
         let number = case_value(within.outer, within.table, self.ty, given)?;
@@ -127,7 +127,7 @@ pub fn case_list(
     ty: Ty,
     given: &[Case],
 ) -> Result<Items<(u128, u32)>, Fault>
-    ensures { Gives (λ all. all) result (case_list outer.now table.now ty given.now) }
+    ensures { Gives (λ all. all) result (case_list outer.now.symbols table.now ty given.now) }
 {
     let mut list = CaseList {
         ty,

@@ -146,7 +146,7 @@ pub fn block_of(outer: &Outer, table: &Table, name: &Name) -> Result<u32, Fault>
 
 #[tactic(auto, unfolding(crate::specs::Operands::place_operand))]
 fn place_operand(outer: &Outer, address: &Address) -> Result<Operand, Fault>
-    ensures { Gives (λ operand. operand) result (place_operand outer.now address.now) }
+    ensures { Gives (λ operand. operand) result (place_operand outer.now.symbols address.now) }
 {
     let target = named_target(outer.alloc, &outer.symbols, &address.name)?;
     let number = global_number(address.name.left, target)?;
@@ -154,7 +154,7 @@ fn place_operand(outer: &Outer, address: &Address) -> Result<Operand, Fault>
 }
 
 fn address_operand(outer: &Outer, ty: Ty, address: &Address) -> Result<Operand, Fault>
-    ensures { Gives (λ operand. operand) result (address_operand outer.now ty address.now) }
+    ensures { Gives (λ operand. operand) result (address_operand outer.now.symbols ty address.now) }
 {
     match ty {
         Ty::Ptr => place_operand(outer, address),
@@ -165,7 +165,7 @@ fn address_operand(outer: &Outer, ty: Ty, address: &Address) -> Result<Operand, 
 /// An operand of a type.
 #[tactic(auto, unfolding(crate::specs::Operands::operand))]
 pub fn operand(outer: &Outer, table: &Table, ty: Ty, value: &Value) -> Result<Operand, Fault>
-    ensures { Gives (λ operand. operand) result (operand outer.now table.now ty value.now) }
+    ensures { Gives (λ operand. operand) result (operand outer.now.symbols table.now ty value.now) }
 {
     match value {
         Value::Local(name) => local_operand(outer, table, name),
@@ -186,7 +186,7 @@ pub fn typed(
     nodes: &[TypeNode],
     given: &Value,
 ) -> Result<(Ty, Operand), Fault>
-    ensures { Gives (λ typed. typed) result (typed outer.now table.now nodes.now given.now) }
+    ensures { Gives (λ typed. typed) result (typed outer.now.symbols table.now nodes.now given.now) }
 {
     let ty = type_of(nodes)?;
     let value = operand(outer, table, ty, given)?;
@@ -216,7 +216,7 @@ pub fn typed_as(
     nodes: &[TypeNode],
     given: &Value,
 ) -> Result<Operand, Fault>
-    ensures { Gives (λ operand. operand) result (typed_as outer.now table.now ty nodes.now given.now) }
+    ensures { Gives (λ operand. operand) result (typed_as outer.now.symbols table.now ty nodes.now given.now) }
 {
     let (other, value) = typed(outer, table, nodes, given)?;
     where_ty(is_ty(other, ty), place_of_value(given), value)
