@@ -8,6 +8,9 @@ use Rattle.ir_tree.specs.declared.tree.Function.{Function as FunctionText}
 use Rattle.ir_tree.specs.declared.tree.NamedType.{NamedType}
 use Rattle.ir_tree.specs.declared.tree.Global.{Global as GlobalText}
 use Rattle.ir_tree.specs.declared.tree.Tree.{Tree}
+use Rattle.ir_tree.specs.declared.tree.Operation.{Operation}
+use Rattle.ir_tree.specs.declared.tree.Operation.TheVariants as operations
+use Rattle.ir_reader.specs.declared.units.UnitCount.{UnitCount}
 use Rattle.ir_core.specs.declared.types.Ty.{Ty}
 use Rattle.ir_core.specs.declared.types.Ty.TheVariants as values
 use Rattle.ir_core.specs.declared.code.Inst.{Inst}
@@ -132,12 +135,32 @@ parameters given = do
 unfoldable pub body : Symbols → Table → Ty → List BlockText → Result (List Block) Fault
 body symbols table ret given = walk (block_step symbols table ret) (record { all = [] }) given >>= λ blocks. Ok blocks.all
 
+-- the cases of a switch, the arguments of a call, and the indices of an address
+unfoldable pub parts_of : Operation → ℕ
+parts_of (operations.Gep given base offsets) = length offsets
+parts_of (operations.Call given is_local callee arguments) = length arguments
+parts_of (operations.Switch value otherwise cases) = length cases
+parts_of operation = 0
+
+-- an instruction costs 1, and 1 more for each of its parts
+abbrev pub unit_step : UnitCount → Instruction → Result UnitCount Fault
+unit_step before given = Ok (record { units = before.units + (1 + parts_of given.operation) })
+
+abbrev pub block_units_step : UnitCount → BlockText → Result UnitCount Fault
+block_units_step before given = walk unit_step before given.instructions
+
+-- the static units of a function's instructions
+unfoldable pub units_of : List BlockText → Result ℕ Fault
+units_of blocks = walk block_units_step (record { units = 0 }) blocks >>= λ count. Ok count.units
+
 -- a function
 unfoldable pub function : Symbols → FunctionText → Result Function Fault
 function symbols given = do
   name ← bytes_of given.name
   ret ← type_of given.ret
   params ← parameters given.parameters
+  count ← units_of given.blocks
+  _ ← within what.Units 16384 count
   names ← body_names params.names (length params.tys) given.blocks
   blocks ← body symbols names.names.table ret given.blocks
   Ok (record { name = name; params = params.tys; ret = ret; blocks = blocks })

@@ -6,6 +6,7 @@ use crate::instructions::{operation, result_type};
 use crate::locals::{BodyNames, Numbering, ParamList, place_behind, place_of};
 use crate::operands::type_of;
 use crate::scope::{Outer, Table, bytes_of};
+use crate::units::units_of;
 use ir_core::code::{Block, Inst};
 use ir_core::program::{Function, Module, What};
 use ir_core::types::Ty;
@@ -131,6 +132,8 @@ fn function(outer: &Outer, given: &ir_tree::Function) -> Result<Function, Fault>
     let name = bytes_of(outer.alloc, &given.name)?;
     let ret = type_of(given.ret.as_slice())?;
     let ParamList { names, tys } = parameters(outer, given.parameters.as_slice())?;
+    let units = units_of(given.blocks.as_slice())?;
+    within(What::Units, 16_384, units)?;
     let count = place_of(tys.len())?;
     let names = body_names(outer, names, count, given.blocks.as_slice())?;
     let blocks = body(outer, &names.names.table, ret, given.blocks.as_slice())?;

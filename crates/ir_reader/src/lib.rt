@@ -7,5 +7,6 @@ mod lists;
 mod locals;
 mod operands;
 mod scope;
+mod units;
 
 pub use functions::module_of;
