@@ -1,5 +1,5 @@
 -- What is made of a list, one item after another, and what a call answers.
-use Rattle.std.specs.Prelude.{◌≡◌, List, [], ◌∷◌, Result, Ok, Err}
+use Rattle.std.specs.Prelude.{◌≡◌, List, [], ◌∷◌, Option, Some, None, Result, Ok, Err}
 use Rattle.ir_names.specs.declared.fault.Fault.{Fault}
 use Rattle.ir_names.specs.declared.fault.Fault.TheVariants as faults
 
@@ -26,7 +26,7 @@ unfoldable pub walk : {S T : Type 0} → (S → T → Result S Fault) → S → 
 walk step state [] = Ok state
 walk step state (x ∷ xs) = step state x >>= λ next. walk step next xs
 
--- the items from the back, each with what those behind it made
-unfoldable pub walk_back : {S T : Type 0} → (S → T → Result S Fault) → S → List T → Result S Fault
-walk_back step state [] = Ok state
-walk_back step state (x ∷ xs) = walk_back step state xs >>= λ next. step next x
+-- a value, or why there is none
+abbrev pub or_fault : {A : Type 0} → Fault → Option A → Result A Fault
+or_fault fault (Some x) = Ok x
+or_fault fault None = Err fault

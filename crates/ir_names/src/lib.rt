@@ -2,7 +2,11 @@
 #![tactic(auto)]
 
 mod fault;
-mod walk;
+mod lists;
+mod number;
+mod tables;
 
 pub use fault::Fault;
-pub use walk::{Step, walk, walk_back};
+pub use lists::{Step, walk};
+pub use number::{literal, natural};
+pub use tables::{Named, Numbered, Target};

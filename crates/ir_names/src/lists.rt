@@ -1,5 +1,5 @@
 ghost use Rattle.std.specs.Prelude.{◌≡◌, Result, Ok};
-ghost use Rattle.ir_names.specs.Walk.{Gives, walk, walk_back};
+ghost use Rattle.ir_names.specs.Walk.{Gives, walk};
 ghost use Rattle.ir_names.specs.declared.fault.Fault.{Fault};
 
 use crate::fault::Fault;
@@ -18,20 +18,6 @@ pub fn walk<C, T, S: Step<C, T>>(state: &mut S, context: &C, given: &[T]) -> Res
     ensures { Gives (λ _. state.new) result (walk (S.steps context.now) state.old given.now) }
 {
     for one in given {
-        state.step(context, one)?;
-    }
-    Ok(())
-}
-
-/// Takes the items from the back.
-pub fn walk_back<C, T, S: Step<C, T>>(
-    state: &mut S,
-    context: &C,
-    given: &[T],
-) -> Result<(), Fault>
-    ensures { Gives (λ _. state.new) result (walk_back (S.steps context.now) state.old given.now) }
-{
-    for one in given.iter().rev() {
         state.step(context, one)?;
     }
     Ok(())
