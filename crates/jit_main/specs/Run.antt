@@ -1,5 +1,5 @@
 -- A run of the program: the command, why it stops, and what it writes.
-use Rattle.std.specs.Prelude.{◌≡◌, ℕ, ◌+◌, ◌-◌, ◌^◌, ◌<◌, ◌≤◌, min, Bool, true, false, ◌||◌, List, [], ◌∷◌, ◌++◌, length, take, slice_get, sum_by, Option, Some, None, IfSome, String, string_bytes, codes, map, if◌then◌else◌}
+use Rattle.std.specs.Prelude.{◌≡◌, ℕ, ◌+◌, ◌-◌, ◌^◌, ◌<◌, ◌≤◌, ◌⊎◌, min, Bool, true, false, ◌||◌, List, [], ◌∷◌, ◌++◌, length, take, slice_get, sum_by, Option, Some, None, IfSome, String, string_bytes, codes, map, if◌then◌else◌}
 use Rattle.std.specs.Str.{bytes_eq}
 use Rattle.std.specs.Fmt.{decimal}
 use Rattle.std.specs.Global.{Global}
@@ -147,10 +147,14 @@ Stops words told stop = (module_text calls_text : List ℕ) × Loaded words told
 abbrev pub IsCommand : List (List ℕ) → Type 0
 IsCommand words = (names : List ℕ × List ℕ) × (command_of words ≡ Some names)
 
+-- a file of this name is one that the words name
+abbrev pub IsNamed : List (List ℕ) → List ℕ → Type 0
+IsNamed words name = (names : List ℕ × List ℕ) × (command_of words ≡ Some names) × ((name ≡ names.0) ⊎ (name ≡ names.1))
+
 -- why the program stops before it writes its answers: the words, the files, the counts of their faults before and after
 abbrev pub Cause : List (List ℕ) → (List ℕ → Option (List ℕ)) → ℕ → ℕ → Stop → Type 0
 Cause words told before now Usage = (command_of words ≡ None) × (now ≡ before)
-Cause words told before now (CannotRead name) = IsCommand words × Rose before now
+Cause words told before now (CannotRead name) = IsNamed words name.now × Rose before now
 Cause words told before now ModuleForm = Stops words told ModuleForm × (now ≡ before)
 Cause words told before now CallsForm = Stops words told CallsForm × (now ≡ before)
 Cause words told before now (NoRoom needed) = Stops words told (NoRoom needed) × (now ≡ before)
