@@ -23,7 +23,7 @@ use Rattle.ir_core.specs.declared.program.Module.{Module}
 use Rattle.ir_core.specs.Units.{instructions, types_in, types_of_arguments, values}
 use Rattle.ir_meaning.specs.Operators.{width}
 use Rattle.ir_meaning.specs.Step.{Program, function_at, insts_at, insts_of}
-use Rattle.ir_meaning.specs.Typed.{types, IsInteger, IsValueType, IsStored, IsOperand, AreArguments, AreIndices, ArePairs, AreCases, IsCast, IsLength, IsBuiltIn, IsCallee, IsReturned, IsOp, IsTypedFunction, IsTyped}
+use Rattle.ir_meaning.specs.Typed.{types, IsInteger, IsValueType, IsResultType, IsStored, IsOperand, AreArguments, AreIndices, ArePairs, AreCases, IsCast, IsLength, IsBuiltIn, IsCallee, IsReturned, IsOp, IsTypedFunction, IsTyped}
 use Rattle.ir_limits.specs.First.{first_refused, or_then}
 use Rattle.ir_flow.specs.Code.{places, typed_pairs, pair_blocks, case_blocks, blocks_named}
 use Rattle.ir_verify.specs.Ranges.{is_width, has_width, all_have_widths, names_what_is, all_named, number_fits_width, all_below, all_cases_fit, names_more, is_in_range, is_parameter, all_parameters, at_first, out_of_range}
@@ -74,6 +74,11 @@ value_is : (ty : Ty) → not (is_void ty) ≡ true → has_width ty ≡ true →
 value_is Void h g = absurd (false≢true h)
 value_is (Int w) h g = width_parts w g
 value_is Ptr h g = tt
+
+result_is : (ty : Ty) → has_width ty ≡ true → IsResultType ty
+result_is Void h = tt
+result_is (Int w) h = width_parts w h
+result_is Ptr h = tt
 
 parameter_is : (ty : Ty) → is_parameter ty ≡ true → IsValueType ty
 parameter_is Void h = absurd (false≢true h)
@@ -346,6 +351,7 @@ module _ (program : Program) (function : Function) (range : out_of_range program
   pub function_typed : IsTypedFunction program function
   function_typed = record {
     params = λ i ty e. every_at IsValueType function.params i ty (parameters_are function.params signature.0) e;
+    ret = result_is function.ret signature.1;
     insts = λ block place inst e. inst_is inst (every_in Passing function.blocks block place inst passing e);
   }
 
