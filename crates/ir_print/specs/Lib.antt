@@ -1,6 +1,0 @@
-pub mod Names
-pub mod Types
-pub mod Values
-pub mod Instructions
-pub mod Modules
-pub mod Laws

@@ -1,4 +1,0 @@
-pub mod Names
-pub mod Operands
-pub mod Instructions
-pub mod Functions
