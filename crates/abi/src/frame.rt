@@ -53,5 +53,4 @@ pub fn slot_offset(slot: u32) -> u64
 /// In a frame of 128 bytes and 32 for each of n values, the saved registers and 4 n + 4 slots lie apart from one another.
 pub fn frames_are_disjoint()
     ensures { FramesAreDisjoint }
-{
-}
+{}
