@@ -1,4 +1,0 @@
-pub mod Settle
-pub mod Values
-pub mod Good
-pub mod Law

@@ -1,5 +1,0 @@
-pub mod Monotone
-pub mod Bytes
-pub mod Costs
-pub mod Lock
-pub mod Itself

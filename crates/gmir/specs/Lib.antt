@@ -1,3 +1,0 @@
-pub mod Play
-pub mod Refines
-pub mod Laws
