@@ -9,7 +9,5 @@ pub mod phis;
 pub mod ranges;
 pub mod refusal;
 pub mod shapes;
-#[cfg(test)]
-mod tests;
 pub mod types;
 pub mod verdict;
