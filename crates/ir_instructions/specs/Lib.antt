@@ -1,0 +1,4 @@
+pub mod BuiltIns
+pub mod Counts
+pub mod Instructions
+pub mod Causes

@@ -1,0 +1,13 @@
+use ir_names::Named;
+use ir_types::Types;
+use std::alloc::Global;
+
+/// What is known outside of functions.
+#[derive(Drop)]
+pub struct Outer {
+    pub alloc: Global,
+    /// The named types.
+    pub types: Types,
+    /// The names of globals and functions.
+    pub symbols: Named,
+}

@@ -1,0 +1,3 @@
+pub mod WordsExact
+pub mod OperatorsExact
+pub mod TypesExact
