@@ -1,6 +1,5 @@
 pub mod Members
-pub mod Spreading
-pub mod Fixpoint
+pub mod Passing
 pub mod Visiting
 pub mod Searched
 pub mod Using

@@ -1,5 +1,5 @@
 pub mod Flow
-pub mod Solver
 pub mod Search
+pub mod Tree
 pub mod Code
 pub mod Assigned

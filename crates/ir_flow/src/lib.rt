@@ -2,6 +2,8 @@
 #![tactic(auto)]
 
 pub mod assigned;
-pub mod flow;
+mod draft;
+mod lists;
+mod tree;
 pub mod uses;
 pub mod walk;

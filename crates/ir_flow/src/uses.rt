@@ -5,7 +5,7 @@ ghost use Rattle.ir_core.specs.Units.{results, values};
 ghost use Rattle.ir_flow.specs.Code.{edges, edges_of, targets as targets_of_op, case_blocks, targets_of_last, places};
 ghost use Rattle.ir_flow.specs.Assigned.{firsts_of, use_of, uses_of_places, uses_of_pairs, uses_of, uses_in_block, uses_in_blocks};
 
-use crate::flow::push;
+use crate::lists::{number_at, push};
 use ir_core::code::{Block, Inst, Op, Operand};
 use ir_core::program::Function;
 use ir_core::types::Ty;
@@ -115,16 +115,6 @@ fn add_arguments(
         add_use(uses, block, before, operand)?;
     }
     Ok(())
-}
-
-/// The number at a place, 0 where there is none.
-fn number_at(numbers: &[u32], at: usize) -> u32
-    ensures { result ≡ slice_index numbers.now at }
-{
-    match numbers.get(at) {
-        Some(number) => *number,
-        None => 0,
-    }
 }
 
 /// A phi's uses stand at the ends of the blocks that they come from.

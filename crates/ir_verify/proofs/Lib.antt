@@ -5,3 +5,5 @@ pub mod Typing
 mod Arguments
 mod Items
 mod Wide
+pub mod Sorted
+pub mod WellFormed

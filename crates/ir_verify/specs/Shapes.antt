@@ -1,5 +1,5 @@
 -- The shape of blocks, and edges to the entry.
-use Rattle.std.specs.Prelude.{ℕ, zero, suc, ◌+◌, Bool, true, false, ◌&&◌, ◌||◌, ◌==◌, not, List, [], ◌∷◌, length, map, count_by, Option, Some, None, if◌then◌else◌}
+use Rattle.std.specs.Prelude.{ℕ, zero, suc, ◌+◌, Bool, true, false, ◌&&◌, ◌||◌, ◌==◌, not, nat_lt, List, [], ◌∷◌, length, map, count_by, Option, Some, None, if◌then◌else◌}
 use Rattle.std.specs.List.{list_any, list_all}
 use Rattle.ir_core.specs.declared.code.Op.{Op}
 use Rattle.ir_core.specs.declared.code.Op.TheVariants.{Switch}
@@ -35,6 +35,15 @@ is_among n (m ∷ ms) = n == m || is_among n ms
 abbrev pub are_distinct : List ℕ → Bool
 are_distinct [] = true
 are_distinct (n ∷ ns) = not (is_among n ns) && are_distinct ns
+
+-- each number is below the next
+abbrev pub is_below_first : ℕ → List ℕ → Bool
+is_below_first n [] = true
+is_below_first n (m ∷ ms) = nat_lt n m
+
+abbrev pub is_rising : List ℕ → Bool
+is_rising [] = true
+is_rising (n ∷ ns) = is_below_first n ns && is_rising ns
 
 abbrev pub has_distinct_cases : Op → Bool
 has_distinct_cases (Switch of a otherwise cases) = are_distinct (map (λ one. one.0) cases)

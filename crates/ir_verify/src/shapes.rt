@@ -1,11 +1,13 @@
 // The shape of blocks, and edges to the entry.
-ghost use Rattle.std.specs.Prelude.{◌≡◌, ℕ, ◌+◌, ◌<◌, ◌≤◌, ◌^◌, length, map, slice_get, drop};
+ghost use Rattle.std.specs.Prelude.{◌≡◌, ℕ, ◌+◌, ◌<◌, ◌≤◌, ◌^◌, length, map, slice_get, drop, IfOk};
 ghost use Rattle.ir_core.specs.Units.{instructions};
 ghost use Rattle.ir_flow.specs.Code.{is_terminator as is_terminator_op, is_phi as is_phi_op, is_alloca as is_alloca_op};
-ghost use Rattle.ir_verify.specs.Shapes.{ends_once as ends_once_in, has_no_phi as has_no_phi_in, has_phis_first as has_phis_first_in, has_no_alloca as has_no_alloca_in, has_distinct_cases as has_distinct_cases_in, all_cases_distinct as all_cases_distinct_in, are_distinct, is_among, fits_number as fits_number_in, is_shaped as is_shaped_block, first_misshapen, misshapen as misshapen_block};
+ghost use Rattle.ir_verify.specs.Shapes.{ends_once as ends_once_in, has_no_phi as has_no_phi_in, has_phis_first as has_phis_first_in, has_no_alloca as has_no_alloca_in, has_distinct_cases as has_distinct_cases_in, all_cases_distinct as all_cases_distinct_in, are_distinct, is_below_first as is_below_first_of, is_rising as is_rising_list, fits_number as fits_number_in, is_shaped as is_shaped_block, first_misshapen, misshapen as misshapen_block};
 
 use ir_core::code::{Block, Inst, Op};
 use ir_core::program::Function;
+use rj_num::NoMemory;
+use std::alloc::Global;
 
 fn is_terminator(op: &Op) -> bool
     ensures { result ≡ is_terminator_op op.now }
@@ -81,47 +83,68 @@ fn has_phis_first(insts: &[Inst]) -> bool
     true
 }
 
-/// A case of the first ones has this number.
-fn has_case(cases: &[(u128, u32)], number: u128) -> bool
-    ensures { result ≡ is_among number (map (λ one. one.0) cases.now) }
+/// The numbers of the cases.
+fn case_numbers(alloc: Global, cases: &[(u128, u32)]) -> Result<Vec<u128>, NoMemory>
+    ensures { IfOk result (λ numbers. numbers.items ≡ map (λ one. one.0) cases.now) }
 {
-    for (n, _) in cases {
-        if *n == number {
-            return true;
+    let mut numbers = Vec::new(alloc);
+    for (number, _) in cases {
+        if numbers.push(*number).is_err() {
+            return Err(NoMemory);
         }
     }
-    false
+    Ok(numbers)
 }
 
-fn are_cases_distinct(cases: &[(u128, u32)]) -> bool
-    ensures { result ≡ are_distinct (map (λ one. one.0) cases.now) }
+/// A number is below the next one, if there is one.
+fn is_below_first(number: u128, rest: &[u128]) -> bool
+    ensures { result ≡ is_below_first_of number rest.now }
 {
-    for i in 0..cases.len() {
-        if has_case(&cases[i + 1..], cases[i].0) {
+    match rest.first() {
+        Some(next) => number < *next,
+        None => true,
+    }
+}
+
+/// Each number is below the next.
+fn is_rising(numbers: &[u128]) -> bool
+    ensures { result ≡ is_rising_list numbers.now }
+{
+    for i in 0..numbers.len() {
+        if !is_below_first(numbers[i], &numbers[i + 1..]) {
             return false;
         }
     }
     true
 }
 
-fn has_distinct_cases(op: &Op) -> bool
-    ensures { result ≡ has_distinct_cases_in op.now }
+/// No two cases have the same number: in order, each is below the next.
+fn are_cases_distinct(alloc: Global, cases: &[(u128, u32)]) -> Result<bool, NoMemory>
+    ensures { IfOk result (λ distinct. distinct ≡ are_distinct (map (λ one. one.0) cases.now)) }
+{
+    let mut numbers = case_numbers(alloc, cases)?;
+    numbers.sort_unstable();
+    Ok(is_rising(numbers.as_slice()))
+}
+
+fn has_distinct_cases(alloc: Global, op: &Op) -> Result<bool, NoMemory>
+    ensures { IfOk result (λ distinct. distinct ≡ has_distinct_cases_in op.now) }
 {
     match op {
-        Op::Switch(_, _, _, cases) => are_cases_distinct(cases.as_slice()),
-        _ => true,
+        Op::Switch(_, _, _, cases) => are_cases_distinct(alloc, cases.as_slice()),
+        _ => Ok(true),
     }
 }
 
-fn all_cases_distinct(insts: &[Inst]) -> bool
-    ensures { result ≡ all_cases_distinct_in insts.now }
+fn all_cases_distinct(alloc: Global, insts: &[Inst]) -> Result<bool, NoMemory>
+    ensures { IfOk result (λ distinct. distinct ≡ all_cases_distinct_in insts.now) }
 {
     for inst in insts {
-        if !has_distinct_cases(&inst.op) {
-            return false;
+        if !has_distinct_cases(alloc, &inst.op)? {
+            return Ok(false);
         }
     }
-    true
+    Ok(true)
 }
 
 fn fits_number(number: u32, insts: &[Inst]) -> bool
@@ -135,26 +158,29 @@ fn fits_number(number: u32, insts: &[Inst]) -> bool
 }
 
 /// The block of this number has its shape.
-fn is_shaped(number: u32, block: &Block) -> bool
-    ensures { result ≡ is_shaped_block number block.now }
+fn is_shaped(alloc: Global, number: u32, block: &Block) -> Result<bool, NoMemory>
+    ensures { IfOk result (λ shaped. shaped ≡ is_shaped_block number block.now) }
 {
     let insts = block.insts.as_slice();
-    ends_once(insts) && fits_number(number, insts) && all_cases_distinct(insts)
+    if !ends_once(insts) || !fits_number(number, insts) {
+        return Ok(false);
+    }
+    all_cases_distinct(alloc, insts)
 }
 
 /// The first block that is misshapen.
-pub fn misshapen(function: &Function) -> Option<u32>
+pub fn misshapen(alloc: Global, function: &Function) -> Result<Option<u32>, NoMemory>
     requires { length (instructions function.now.blocks) < 2 ^ 32 }
-    ensures { result ≡ misshapen_block function.now }
+    ensures { IfOk result (λ found. found ≡ misshapen_block function.now) }
 {
     let blocks = function.blocks.as_slice();
     if blocks.is_empty() {
-        return Some(0);
+        return Ok(Some(0));
     }
     for i in 0..blocks.len() {
-        if !is_shaped(i as u32, &blocks[i]) {
-            return Some(i as u32);
+        if !is_shaped(alloc, i as u32, &blocks[i])? {
+            return Ok(Some(i as u32));
         }
     }
-    None
+    Ok(None)
 }

@@ -31,21 +31,21 @@ fn limit_row(alloc: Global, all: &Module) -> Result<Option<VerifyRefusal>, NoMem
     }
 }
 
-fn shape_row(all: &Module) -> Option<VerifyRefusal>
+fn shape_row(alloc: Global, all: &Module) -> Result<Option<VerifyRefusal>, NoMemory>
     requires count { length all.now.functions ≤ 1024 }
     requires small { All IsSmall all.now.functions }
-    ensures { result ≡ shape_refusal all.now }
+    ensures { IfOk result (λ found. found ≡ shape_refusal all.now) }
 {
     let functions = all.functions.as_slice();
     for i in 0..functions.len() {
-        if let Some(block) = misshapen(&functions[i]) {
-            return Some(VerifyRefusal::Shape {
+        if let Some(block) = misshapen(alloc, &functions[i])? {
+            return Ok(Some(VerifyRefusal::Shape {
                 function: i as u32,
                 block,
-            });
+            }));
         }
     }
-    None
+    Ok(None)
 }
 
 fn range_row(all: &Module) -> Option<VerifyRefusal>
@@ -186,7 +186,7 @@ fn rows(alloc: Global, all: &Module) -> Result<Option<VerifyRefusal>, NoMemory>
     if limits.is_some() {
         return Ok(limits);
     }
-    let shapes = shape_row(all);
+    let shapes = shape_row(alloc, all)?;
     if shapes.is_some() {
         return Ok(shapes);
     }
