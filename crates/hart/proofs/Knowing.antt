@@ -4,16 +4,10 @@ use Rattle.std.specs.List.{slice_get}
 use Rattle.std.specs.Option.{option_map}
 use Rattle.std.proofs.lemmas.Option.{slice_get-map, slice_get_cases}
 use Rattle.ir_core.specs.declared.program.Function.{Function}
-use Rattle.ir_core.specs.declared.program.Module.{Module}
 use Rattle.ir_core.specs.Program.{Program}
-use Rattle.ir_core.specs.Small.{IsSmallModule, program_of}
 use Rattle.ir_meaning.specs.Meaning.{meaning, result_width, of_function}
-use Rattle.ir_meaning.proofs.SmallTyped.{small-typed}
 use Rattle.hart.specs.declared.hart.Hart.{Hart}
 use Rattle.hart.specs.Standing.{IsFor}
-
-pub few_functions : (module_ : Module) → IsSmallModule module_ → length module_.functions ≤ 1024
-few_functions module_ s = (small-typed (program_of module_ 4096) (record { small = s; room = (omega arith, omega arith, refl) })).functions
 
 not_none_by : (xs : List Function) (i : ℕ) → i < length xs → slice_get xs i ≡ None
     → ((x : Function) × (i < length xs) × (slice_get xs i ≡ Some x) × (get_or xs i x ≡ x)) ⊎ ((length xs ≤ i) × (slice_get xs i ≡ None)) → ⊥

@@ -8,3 +8,4 @@ pub mod Asking
 pub mod Laid
 pub mod Answering
 pub mod Samples
+pub mod Following

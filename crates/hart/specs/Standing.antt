@@ -164,6 +164,17 @@ pub record Turns (h h' : Hart) (items : List Item) (w : Wanted) : Type 0 where
   pub same : IsSameCall h h'
   pub fewer : turns_left h' h'.phase < turns_left h h.phase
 
+-- the call has gone on to where the hart wants something, and what was given has led there
+abbrev pub HasGone : Hart → Hart → Type 0
+HasGone h h' = (w : Wanted) × Waits h h' w
+
+abbrev pub HasTurned : Hart → Hart → List Item → Type 0
+HasTurned h h' items = (w : Wanted) × Turns h h' items w
+
+-- the hart wants something
+abbrev pub WantsSome : Hart → Type 0
+WantsSome h = (w : Wanted) × wanted_by h h.phase w
+
 -- what is given is what was wanted last
 abbrev pub IsGiven : Phase → Given → Type 0
 IsGiven phase.Idle g = ⊥

@@ -6,7 +6,7 @@ ghost use Rattle.rv_play.specs.Machine.{load_size, store_size, extended};
 use rv_core::instr::{LoadOp, StoreOp};
 
 /// The number in one byte.
-#[inline]
+#[inline(always)]
 pub fn load_1(bytes: &[u8], place: usize) -> u8
     requires { place + 1 ≤ length bytes.now }
     ensures { result ≡ load_bytes (slice_index bytes.now) place 1 }
@@ -15,7 +15,7 @@ pub fn load_1(bytes: &[u8], place: usize) -> u8
 }
 
 /// The number in two bytes.
-#[inline]
+#[inline(always)]
 pub fn load_2(bytes: &[u8], place: usize) -> u16
     requires { place + 2 ≤ length bytes.now }
     ensures { result ≡ load_bytes (slice_index bytes.now) place 2 }
@@ -25,7 +25,7 @@ pub fn load_2(bytes: &[u8], place: usize) -> u16
 }
 
 /// The number in four bytes.
-#[inline]
+#[inline(always)]
 pub fn load_4(bytes: &[u8], place: usize) -> u32
     requires { place + 4 ≤ length bytes.now }
     ensures { result ≡ load_bytes (slice_index bytes.now) place 4 }
@@ -35,7 +35,7 @@ pub fn load_4(bytes: &[u8], place: usize) -> u32
 }
 
 /// The number in eight bytes.
-#[inline]
+#[inline(always)]
 pub fn load_8(bytes: &[u8], place: usize) -> u64
     requires { place + 8 ≤ length bytes.now }
     ensures { result ≡ load_bytes (slice_index bytes.now) place 8 }
@@ -45,51 +45,50 @@ pub fn load_8(bytes: &[u8], place: usize) -> u64
 }
 
 /// Writes a number's lowest byte.
-#[inline]
-pub fn store_1(bytes: &mut Vec<u8>, place: usize, value: u64)
-    requires { place + 1 ≤ length bytes.old.items }
-    ensures bytes { slice_index bytes.new.items ≡ store_bytes (slice_index bytes.old.items) place 1 value }
-    ensures length { vec_len bytes.new ≡ vec_len bytes.old }
+#[inline(always)]
+pub fn store_1(bytes: &mut [u8], place: usize, value: u64)
+    requires { place + 1 ≤ length bytes.old }
+    ensures bytes { slice_index bytes.new ≡ store_bytes (slice_index bytes.old) place 1 value }
+    ensures length { length bytes.new ≡ length bytes.old }
 {
     bytes[place] = (value % (1 << 8)) as u8;
 }
 
 /// Writes a number's lowest two bytes.
-#[inline]
-pub fn store_2(bytes: &mut Vec<u8>, place: usize, value: u64)
-    requires { place + 2 ≤ length bytes.old.items }
-    ensures bytes { slice_index bytes.new.items ≡ store_bytes (slice_index bytes.old.items) place 2 value }
-    ensures length { vec_len bytes.new ≡ vec_len bytes.old }
+#[inline(always)]
+pub fn store_2(bytes: &mut [u8], place: usize, value: u64)
+    requires { place + 2 ≤ length bytes.old }
+    ensures bytes { slice_index bytes.new ≡ store_bytes (slice_index bytes.old) place 2 value }
+    ensures length { length bytes.new ≡ length bytes.old }
 {
-    let number = value.to_le_bytes();
-    bytes[place] = number[0];
-    bytes[place + 1] = number[1];
+    store_1(bytes, place, value);
+    store_1(bytes, place + 1, value >> 8);
 }
 
 /// Writes a number's lowest four bytes.
-#[inline]
-pub fn store_4(bytes: &mut Vec<u8>, place: usize, value: u64)
-    requires { place + 4 ≤ length bytes.old.items }
-    ensures bytes { slice_index bytes.new.items ≡ store_bytes (slice_index bytes.old.items) place 4 value }
-    ensures length { vec_len bytes.new ≡ vec_len bytes.old }
+#[inline(always)]
+pub fn store_4(bytes: &mut [u8], place: usize, value: u64)
+    requires { place + 4 ≤ length bytes.old }
+    ensures bytes { slice_index bytes.new ≡ store_bytes (slice_index bytes.old) place 4 value }
+    ensures length { length bytes.new ≡ length bytes.old }
 {
     store_2(bytes, place, value);
     store_2(bytes, place + 2, value >> 16);
 }
 
 /// Writes a number's lowest eight bytes.
-#[inline]
-pub fn store_8(bytes: &mut Vec<u8>, place: usize, value: u64)
-    requires { place + 8 ≤ length bytes.old.items }
-    ensures bytes { slice_index bytes.new.items ≡ store_bytes (slice_index bytes.old.items) place 8 value }
-    ensures length { vec_len bytes.new ≡ vec_len bytes.old }
+#[inline(always)]
+pub fn store_8(bytes: &mut [u8], place: usize, value: u64)
+    requires { place + 8 ≤ length bytes.old }
+    ensures bytes { slice_index bytes.new ≡ store_bytes (slice_index bytes.old) place 8 value }
+    ensures length { length bytes.new ≡ length bytes.old }
 {
     store_4(bytes, place, value);
     store_4(bytes, place + 4, value >> 32);
 }
 
 /// How many bytes a load takes.
-#[inline]
+#[inline(always)]
 pub fn size_of_load(op: LoadOp) -> u64
     ensures value { result ≡ load_size op }
     ensures small { result ≤ 8 }
@@ -103,7 +102,7 @@ pub fn size_of_load(op: LoadOp) -> u64
 }
 
 /// How many bytes a store takes.
-#[inline]
+#[inline(always)]
 pub fn size_of_store(op: StoreOp) -> u64
     ensures value { result ≡ store_size op }
     ensures small { result ≤ 8 }
@@ -118,7 +117,7 @@ pub fn size_of_store(op: StoreOp) -> u64
 
 /// The bytes at a place as a register's value.
 #[tactic(auto, using(rv_core::proofs::Numbers::modulo_fits))]
-#[inline]
+#[inline(always)]
 pub fn load_number(op: LoadOp, bytes: &[u8], place: usize) -> u64
     requires { place + load_size op ≤ length bytes.now }
     ensures { result ≡ extended op (load_bytes (slice_index bytes.now) place (load_size op)) }
@@ -135,7 +134,7 @@ pub fn load_number(op: LoadOp, bytes: &[u8], place: usize) -> u64
 }
 
 /// Writes a register's lowest bytes to a place.
-#[inline]
+#[inline(always)]
 pub fn store_number(op: StoreOp, bytes: &mut Vec<u8>, place: usize, value: u64)
     requires { place + store_size op ≤ length bytes.old.items }
     ensures bytes { slice_index bytes.new.items ≡ store_bytes (slice_index bytes.old.items) place (store_size op) value }

@@ -16,12 +16,13 @@ use rv_core::step::{Stepped, step_instr};
 
 impl Hart {
     /// Does an instruction, and says what it has led to. A fault leaves the registers as they were.
-    #[inline]
+    #[inline(always)]
     pub(crate) fn execute(&mut self, instr: Instr) -> Did
         requires { IsValid instr }
         ensures does { (m : Meaning) → IsFor m self.old → (counted : List ℕ) (pass : List Item) → do_instr m (run_of self.old counted pass) instr ≡ next_of self.new counted pass result }
         ensures keeps { IsSameCall self.old self.new }
         ensures left { self.new.left ≡ self.old.left }
+        ensures phase { self.new.phase ≡ self.old.phase }
         ensures allowed { IsAllowed self.old result }
     {
         let pc = self.regs.pc;
@@ -34,11 +35,12 @@ impl Hart {
     }
 
     // Serves what an instruction asks.
-    #[inline]
+    #[inline(always)]
     fn serve(&mut self, asked: Stepped) -> Did
         ensures does { (m : Meaning) → IsFor m self.old → Serves m (machine_of self.old) asked (machine_of self.new) result }
         ensures keeps { IsSameCall self.old self.new }
         ensures left { self.new.left ≡ self.old.left }
+        ensures phase { self.new.phase ≡ self.old.phase }
         ensures allowed { IsAllowed self.old result }
     {
         match asked {
@@ -50,11 +52,12 @@ impl Hart {
         }
     }
 
-    #[inline]
+    #[inline(never)]
     fn load(&mut self, op: LoadOp, rd: Reg, address: u64) -> Did
         ensures does { (m : Meaning) → IsFor m self.old → Serves m (machine_of self.old) (Stepped.Load op rd address) (machine_of self.new) result }
         ensures keeps { IsSameCall self.old self.new }
         ensures left { self.new.left ≡ self.old.left }
+        ensures phase { self.new.phase ≡ self.old.phase }
         ensures allowed { IsAllowed self.old result }
     {
         match cell_of(op, self.functions, address) {
@@ -80,11 +83,12 @@ impl Hart {
         }
     }
 
-    #[inline]
+    #[inline(never)]
     fn store(&mut self, op: StoreOp, value: u64, address: u64) -> Did
         ensures does { (m : Meaning) → IsFor m self.old → Serves m (machine_of self.old) (Stepped.Store op value address) (machine_of self.new) result }
         ensures keeps { IsSameCall self.old self.new }
         ensures left { self.new.left ≡ self.old.left }
+        ensures phase { self.new.phase ≡ self.old.phase }
         ensures allowed { IsAllowed self.old result }
     {
         match find(
@@ -111,6 +115,7 @@ impl Hart {
         ensures does { (m : Meaning) → IsFor m self.old → Serves m (machine_of self.old) Stepped.Call (machine_of self.new) result }
         ensures keeps { IsSameCall self.old self.new }
         ensures left { self.new.left ≡ self.old.left }
+        ensures phase { self.new.phase ≡ self.old.phase }
         ensures allowed { IsAllowed self.old result }
     {
         let symbol = self.regs.read(Reg::T1);

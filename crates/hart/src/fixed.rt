@@ -94,17 +94,17 @@ impl Fabric for FixedFabric {
         self.begun = true;
     }
 
-    #[inline]
+    #[inline(always)]
     fn cell(&mut self, symbol: u32) -> u64 {
         self.cells[symbol as usize]
     }
 
-    #[inline]
+    #[inline(always)]
     fn fetch(&mut self, address: u64) -> u32 {
         self.code[((address - CODE) / 4) as usize]
     }
 
-    #[inline]
+    #[inline(always)]
     fn count(&mut self, _symbol: u32) {}
 
     fn end(&mut self) {

@@ -42,7 +42,7 @@ pub enum At {
 }
 
 /// Where so many bytes from an address on stand wholly, in a data memory and a control stack of these lengths.
-#[inline]
+#[inline(always)]
 pub fn find(bytes: usize, control: usize, address: u64, size: u64) -> Found
     requires bytes { bytes ≤ 67108864 }
     requires control { control ≤ 8388608 }
@@ -64,7 +64,7 @@ pub fn find(bytes: usize, control: usize, address: u64, size: u64) -> Found
 }
 
 /// The symbol whose cell a load of an address reads, if it is such a load.
-#[inline]
+#[inline(always)]
 pub fn cell_of(op: LoadOp, functions: u32, address: u64) -> Option<u32>
     requires { functions ≤ 1024 }
     ensures value { result ≡ symbol_of_cell op functions address }

@@ -2,7 +2,7 @@
 ghost use Rattle.std.specs.Prelude.{◌≡◌, ◌≢◌, ◌<◌, ◌≤◌, ℕ, List, vec_len, true, false};
 ghost use Rattle.rv_play.specs.Good.{IsBytes};
 ghost use Rattle.hart.specs.declared.hart.Hart.{Hart};
-ghost use Rattle.hart.specs.Standing.{IsSameCall};
+ghost use Rattle.hart.specs.Standing.{IsSameCall, IsAsked, IsCodeAddress, wanted_by, turns_left};
 ghost use Rattle.hart.specs.Calls.{HasRoomFor, IsCall, Origin, Both, Asked, Answers, IsQuestion, HasEnded, Knows, origin_of};
 
 use crate::fabric::Fabric;
@@ -10,7 +10,7 @@ use crate::hart::{Given, Hart, Image, Phase, Wanted};
 use ir_meaning::calls::{Ended, ListedCall};
 
 // Asks a fabric what a hart wants.
-#[inline]
+#[inline(always)]
 fn ask<F: Fabric>(fabric: &mut F, wanted: Wanted) -> Given
     requires begun { F.is_begun fabric.old ≡ true }
     requires question { IsQuestion (F.symbol_count fabric.old) (F.code_word_count fabric.old) wanted }
@@ -74,8 +74,56 @@ impl Hart {
             if let Wanted::End = wanted {
                 return;
             }
-            let given = ask(fabric, wanted);
-            wanted = self.turn(given);
+            wanted = self.serve_wish(fabric, wanted);
+        }
+    }
+
+    // Serves what the hart wants, up to something else.
+    fn serve_wish<F: Fabric>(&mut self, fabric: &mut F, wanted: Wanted) -> Wanted
+        requires wanted { wanted_by self.old self.old.phase wanted }
+        requires asked { IsAsked self.old wanted }
+        requires goes { wanted ≢ Wanted.End }
+        requires begun { F.is_begun fabric.old ≡ true }
+        requires symbols { F.symbol_count fabric.old ≡ self.old.functions }
+        requires code { F.code_word_count fabric.old ≡ self.old.code_words }
+        ensures wanted { wanted_by self.new self.new.phase result }
+        ensures asked { IsAsked self.new result }
+        ensures both { (since : F) (known : Hart) (o : Origin) → Both F.stands since fabric.old known o self.old → Both F.stands since fabric.new known o self.new }
+        ensures begun { F.is_begun fabric.new ≡ true }
+        ensures symbols { F.symbol_count fabric.new ≡ F.symbol_count fabric.old }
+        ensures code_words { F.code_word_count fabric.new ≡ F.code_word_count fabric.old }
+        ensures same { IsSameCall self.old self.new }
+        ensures fewer { turns_left self.new self.new.phase < turns_left self.old self.old.phase }
+    {
+        match wanted {
+            Wanted::Fetch(_) => self.run_words(fabric),
+            _ => {
+                let given = ask(fabric, wanted);
+                self.turn(given)
+            }
+        }
+    }
+
+    // Runs code words one after another, up to where something else is wanted.
+    fn run_words<F: Fabric>(&mut self, fabric: &mut F) -> Wanted
+        requires phase { self.old.phase ≡ Phase.Fetch }
+        requires inside { IsCodeAddress self.old.code_words self.old.regs.pc }
+        requires begun { F.is_begun fabric.old ≡ true }
+        requires code { F.code_word_count fabric.old ≡ self.old.code_words }
+        ensures wanted { wanted_by self.new self.new.phase result }
+        ensures asked { IsAsked self.new result }
+        ensures both { (since : F) (known : Hart) (o : Origin) → Both F.stands since fabric.old known o self.old → Both F.stands since fabric.new known o self.new }
+        ensures begun { F.is_begun fabric.new ≡ true }
+        ensures symbols { F.symbol_count fabric.new ≡ F.symbol_count fabric.old }
+        ensures code_words { F.code_word_count fabric.new ≡ F.code_word_count fabric.old }
+        ensures same { IsSameCall self.old self.new }
+        ensures fewer { turns_left self.new self.new.phase < turns_left self.old self.old.phase }
+    {
+        loop {
+            let word = fabric.fetch(self.regs.pc);
+            if !self.take_next(word) {
+                return self.wanted();
+            }
         }
     }
 }

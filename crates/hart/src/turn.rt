@@ -1,11 +1,12 @@
 // A call's turns: the hart goes on with what it was given, up to where it wants something again.
-ghost use Rattle.std.specs.Prelude.{◌≡◌, ◌≢◌, ◌≤◌, ◌<◌, ◌+◌, ◌*◌, ◌++◌, [], ◌∷◌, ℕ, length, List, Option, MatchOption};
+ghost use Rattle.std.specs.Prelude.{◌≡◌, ◌≢◌, ◌≤◌, ◌<◌, ◌+◌, ◌*◌, ◌++◌, [], ◌∷◌, ℕ, length, List, Option, MatchOption, true};
 ghost use Rattle.ir_meaning.specs.Plays.{Meaning};
 ghost use Rattle.rv_core.specs.Step.{view, read};
 ghost use Rattle.rv_core.specs.declared.reg.Reg.TheVariants.{A0};
 ghost use Rattle.rv_play.specs.Ending.{Item, Saw, Held, answer, goes_to};
+ghost use Rattle.rv_encode.specs.Reading.{instr_of};
 ghost use Rattle.hart.specs.declared.hart.Did.{Did};
-ghost use Rattle.hart.specs.Standing.{IsFor, IsSameCall, IsAllowed, IsAsked, Continues, Waits, Turns, machine_of, run_of, next_of, goes_on, rest_of, wanted_by, with_counted, at_of, turns_left, IsGiven, IsNext, Turned, item_of};
+ghost use Rattle.hart.specs.Standing.{IsFor, IsSameCall, IsAllowed, IsAsked, Continues, Waits, Turns, machine_of, run_of, next_of, goes_on, rest_of, wanted_by, with_counted, at_of, turns_left, HasGone, HasTurned, WantsSome, IsGiven, IsNext, Turned, item_of};
 ghost use Rattle.hart.specs.Calls.{Origin, Stands};
 
 use crate::hart::{Did, Given, Hart, Phase, Wanted};
@@ -16,7 +17,6 @@ use rv_core::reg::Reg;
 
 impl Hart {
     /// Goes on with what was wanted last, up to where the call wants something again.
-    #[inline]
     pub fn turn(&mut self, given: Given) -> Wanted
         requires { IsGiven self.old.phase given }
         ensures stands { (m : Meaning) (o : Origin) (pass : List Item) (counted : List ℕ) → Stands m o self.old pass counted → Stands m o self.new (pass ++ item_of self.old self.old.phase given) (with_counted self.new.phase counted) }
@@ -39,22 +39,31 @@ impl Hart {
                 Phase::Cell(rd, symbol) => self.take_base(rd, symbol, base),
                 _ => unreachable!(),
             },
-            Given::Nothing => match self.phase {
-                Phase::Start => {
-                    self.phase = Phase::Begin;
-                    Wanted::Begin
-                }
-                Phase::End(ended) => {
-                    self.phase = Phase::Done(ended);
-                    Wanted::Done(ended)
-                }
-                _ => self.go_on(),
-            },
+            Given::Nothing => self.take_nothing(),
+        }
+    }
+
+    // Nothing was wanted: the call begins, goes on or is over.
+    #[inline(never)]
+    fn take_nothing(&mut self) -> Wanted
+        requires { IsGiven self.old.phase Given.Nothing }
+        ensures { Turned self.old self.new Given.Nothing result }
+    {
+        match self.phase {
+            Phase::Start => {
+                self.phase = Phase::Begin;
+                Wanted::Begin
+            }
+            Phase::End(ended) => {
+                self.phase = Phase::Done(ended);
+                Wanted::Done(ended)
+            }
+            _ => self.go_on(),
         }
     }
 
     // Where the instruction at the program counter stands.
-    #[inline]
+    #[inline(always)]
     fn standing(&self) -> At
         ensures at { result ≡ at_of self.now }
     {
@@ -73,6 +82,7 @@ impl Hart {
     }
 
     // The answer at the exit.
+    #[inline(never)]
     fn answer(&self) -> Ended
         ensures { result ≡ answer self.now.width (view self.now.regs) }
     {
@@ -88,7 +98,7 @@ impl Hart {
     }
 
     // Waits for what an instruction has led to.
-    #[inline]
+    #[inline(never)]
     fn wait(&mut self, did: Did) -> Wanted
         requires asks { did ≢ Did.On }
         requires allowed { IsAllowed self.old did }
@@ -127,7 +137,7 @@ impl Hart {
 
     // Begins the instruction at the program counter, if one is run. None where it was one of a stub's, and the call goes on
     // behind it.
-    #[inline]
+    #[inline(always)]
     fn begin_instr(&mut self) -> Option<Wanted>
         ensures { MatchOption result (Continues self.old self.new) (Waits self.old self.new) }
     {
@@ -145,6 +155,7 @@ impl Hart {
     }
 
     // Runs one instruction of a stub.
+    #[inline(never)]
     fn run_stub(&mut self, symbol: u32, place: u64) -> Option<Wanted>
         requires { at_of self.old ≡ At.Stub symbol place }
         ensures { MatchOption result (Continues self.old self.new) (Waits self.old self.new) }
@@ -157,7 +168,7 @@ impl Hart {
     }
 
     // Goes on to where the hart wants something.
-    #[inline]
+    #[inline(never)]
     fn go_on(&mut self) -> Wanted
         ensures { Waits self.old self.new result }
     {
@@ -168,23 +179,84 @@ impl Hart {
         }
     }
 
+    // Goes on to where the hart wants something. It waits for a word, and answers whether it wants the next one.
+    #[inline(always)]
+    fn go_to_word(&mut self) -> bool
+        requires { self.old.phase ≡ Phase.Fetch }
+        ensures waits { HasGone self.old self.new }
+        ensures word { result ≡ true → self.new.phase ≡ Phase.Fetch }
+    {
+        match self.standing() {
+            At::Code => {
+                self.left -= 1;
+                true
+            }
+            _ => {
+                let _ = self.go_on();
+                false
+            }
+        }
+    }
+
+    // The word at the program counter has been given. Answers whether the next one is wanted.
+    #[inline(always)]
+    pub(crate) fn take_next(&mut self, word: u32) -> bool
+        requires { self.old.phase ≡ Phase.Fetch }
+        ensures turned { HasTurned self.old self.new (Saw self.old.regs.pc word ∷ []) }
+        ensures word { result ≡ true → self.new.phase ≡ Phase.Fetch }
+    {
+        match instr_at(word) {
+            Some(instr) => match self.execute(instr) {
+                Did::On => self.go_to_word(),
+                did => {
+                    let _ = self.wait(did);
+                    false
+                }
+            },
+            None => {
+                let _ = self.take_unknown(word);
+                false
+            }
+        }
+    }
+
+    // The word at the program counter has been given, and spells nothing.
+    fn take_unknown(&mut self, word: u32) -> Wanted
+        requires phase { self.old.phase ≡ Phase.Fetch }
+        requires unknown { instr_of word ≡ Option.None }
+        ensures { Turns self.old self.new (Saw self.old.regs.pc word ∷ []) result }
+    {
+        self.end(Ended::Fault { pc: self.regs.pc })
+    }
+
     // The word at the program counter has been given.
-    #[inline]
     fn take_word(&mut self, word: u32) -> Wanted
         requires { self.old.phase ≡ Phase.Fetch }
         ensures { Turns self.old self.new (Saw self.old.regs.pc word ∷ []) result }
     {
-        match instr_at(word) {
-            Some(instr) => match self.execute(instr) {
-                Did::On => self.go_on(),
-                did => self.wait(did),
-            },
-            None => self.end(Ended::Fault { pc: self.regs.pc }),
+        let _ = self.take_next(word);
+        self.wanted()
+    }
+
+    // What the hart waits for.
+    pub(crate) fn wanted(&self) -> Wanted
+        requires { WantsSome self.now }
+        ensures { wanted_by self.now self.now.phase result }
+    {
+        match self.phase {
+            Phase::Begin => Wanted::Begin,
+            Phase::Fetch => Wanted::Fetch(self.regs.pc),
+            Phase::Cell(_, symbol) => Wanted::Cell(symbol),
+            Phase::Count(symbol) => Wanted::Count(symbol),
+            Phase::End(_) => Wanted::End,
+            Phase::Done(ended) => Wanted::Done(ended),
+            Phase::Idle => unreachable!(),
+            Phase::Start => unreachable!(),
         }
     }
 
     // The base that a symbol's cell holds has been given, for a register.
-    #[inline]
+    #[inline(never)]
     fn take_base(&mut self, rd: Reg, symbol: u32, base: u64) -> Wanted
         requires { self.old.phase ≡ Phase.Cell rd symbol }
         ensures { Turns self.old self.new (Held symbol base ∷ []) result }

@@ -5,9 +5,9 @@ ghost use Rattle.ir_meaning.specs.Meaning.{meaning, result_width};
 ghost use Rattle.hart.specs.Standing.{IsFor};
 
 use crate::hart::Hart;
-use ir_core::checked::Checked;
 use ir_core::program::Function;
 use ir_core::types::Ty;
+use ir_verify::checked::Checked;
 use rj_num::NoMemory;
 use std::alloc::Global;
 

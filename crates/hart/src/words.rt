@@ -7,7 +7,7 @@ use rv_core::instr::Instr;
 use rv_encode::decode::decode;
 
 /// The instruction that a word spells, if there is one.
-#[inline]
+#[inline(always)]
 pub fn instr_at(word: u32) -> Option<Instr>
     ensures value { result ≡ instr_of word }
     ensures valid { IfSome result IsValid }

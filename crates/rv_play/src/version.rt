@@ -3,7 +3,7 @@ ghost use Rattle.std.specs.Prelude.{◌≡◌, ◌<◌, ◌≤◌, ℕ, Bool, le
 ghost use Rattle.ir_core.specs.Program.{Program};
 ghost use Rattle.rv_play.specs.Versions.{IsVersion, Allows};
 
-use ir_core::checked::Checked;
+use ir_verify::checked::Checked;
 use sqlite_items::Items;
 use std::alloc::Global;
 

@@ -4,4 +4,4 @@ use Rattle.hart.proofs.bytes.store_8.Goals as goal
 
 pub returns-clause-bytes : goal.returns-clause-bytes
 returns-clause-bytes c =
-    store_twice (slice_index c.args.bytes.now.items) _ _ c.args.place 4 c.args.value c.store_4.ensures.bytes c.store_4-2.ensures.bytes
+    store_twice (slice_index c.args.bytes.now) _ _ c.args.place 4 c.args.value c.store_4.ensures.bytes c.store_4-2.ensures.bytes

@@ -1,5 +1,6 @@
-use Rattle.hart.proofs.Knowing.{few_functions}
+use Rattle.std.proofs.Common.{ap, ◌∙◌}
+use Rattle.ir_core.specs.declared.program.Module.{Module}
 use Rattle.hart.proofs.widths.functions_of.Goals as goal
 
 pub returns-clause-few : goal.returns-clause-few
-returns-clause-few c = rw c.as_slice.ensures (few_functions c.module.result.now c.module.ensures.small)
+returns-clause-few c = rw (c.as_slice.ensures ∙ ap (λ (m : Module). m.functions) c.module.ensures.value) c.module.ensures.typed.functions

@@ -20,5 +20,6 @@ returns-in_default c = record {
     fuel = c.serve-did.ensures.keeps.fuel;
   };
   left = c.serve-did.ensures.left;
+  phase = c.serve-did.ensures.phase;
   allowed = c.serve-did.ensures.allowed;
 }

@@ -1,16 +1,12 @@
-use Rattle.std.proofs.Common.{sym, ◌∙◌, arith}
-use Rattle.hart.proofs.Turning.{word_done, same_then}
+use Rattle.std.proofs.Common.{subst, List, [], ◌∷◌}
+use Rattle.rv_play.specs.Ending.{Saw}
+use Rattle.hart.specs.declared.hart.Wanted.{Wanted}
+use Rattle.hart.specs.Standing.{Turns}
+use Rattle.hart.proofs.Following.{one_wish}
 use Rattle.hart.proofs.hart.Hart.take_word.Goals as goal
 
-pub returns-in_default : goal.returns-in_default
-returns-in_default c = record {
-  goes = λ m f counted pass.
-      word_done m c.args.self.now c.execute.new.self counted pass c.args.word c.in-Some.instr c.execute.result c.requires
-      (sym c.instr_at.ensures.value ∙ c.in-Some.is)
-      (c.execute.ensures.does m f counted pass) c.execute.ensures.keeps c.execute.ensures.left
-      ∙ c.wait.ensures.goes m counted pass;
-  wanted = c.wait.ensures.wanted;
-  asked = c.wait.ensures.asked;
-  same = same_then c.args.self.now c.execute.new.self c.wait.new.self c.execute.ensures.keeps c.wait.ensures.keeps;
-  fewer = rw c.requires (let same = c.execute.ensures.left in let few = c.wait.ensures.fewer in omega arith);
-}
+pub returns : goal.returns
+returns c =
+    let turned = c.take_next.ensures.turned in
+    subst (λ (w : Wanted). Turns c.args.self.now c.take_next.new.self (Saw c.args.self.now.regs.pc c.args.word ∷ []) w)
+    (one_wish c.take_next.new.self c.take_next.new.self.phase turned.0 c.wanted.result turned.1.wanted c.wanted.ensures) turned.1
