@@ -1,0 +1,3 @@
+mod Shows
+pub mod Sizes
+pub mod Steps
