@@ -1,0 +1,4 @@
+pub mod Inits
+pub mod Trees
+pub mod Written
+pub mod Laws

@@ -1,0 +1,4 @@
+pub mod Layers
+pub mod Lines
+pub mod NamesBack
+pub mod NumbersBack

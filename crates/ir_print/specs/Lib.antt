@@ -1,0 +1,5 @@
+pub mod Types
+pub mod Values
+pub mod Instructions
+pub mod Modules
+pub mod Laws

@@ -1,0 +1,11 @@
+mod Digits
+mod Named
+mod Operands
+mod Operations
+mod Memory
+mod Addresses
+mod Functions
+mod Same
+mod Inits
+mod Modules
+mod Forms

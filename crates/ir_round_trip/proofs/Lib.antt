@@ -1,0 +1,16 @@
+pub mod Joined
+pub mod Tokens
+pub mod Segments
+pub mod Marks
+pub mod NamesHere
+pub mod TypesBack
+pub mod MemoryBack
+pub mod AddressesBack
+pub mod ValuesBack
+pub mod FlagsBack
+pub mod OperationsBack
+pub mod OperationsWhole
+pub mod ListsBack
+pub mod SwitchBack
+pub mod AllocaBack
+pub mod LongOperations

@@ -1,0 +1,4 @@
+pub mod Trees
+pub mod Operators
+pub mod Instructions
+pub mod Laws
