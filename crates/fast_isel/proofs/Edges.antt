@@ -10,6 +10,7 @@ use Rattle.ir_core.specs.declared.code.Op.{Op}
 use Rattle.ir_core.specs.declared.code.Op.TheVariants.{Binary, Icmp, Cast, Select, Freeze, Phi, Alloca, Load as LoadOf, Store as StoreOf, Gep, Call, BuiltIn as CallBuiltIn, Ret, Br, CondBr, Switch, Unreachable}
 use Rattle.ir_core.specs.declared.code.Inst.{Inst}
 use Rattle.ir_core.specs.declared.program.Function.{Function}
+use Rattle.ir_core.specs.declared.program.Global.{Global}
 use Rattle.ir_core.specs.Units.{has_result, units}
 use Rattle.rv_core.specs.declared.reg.Reg.{Reg}
 use Rattle.rv_core.specs.declared.reg.Reg.TheVariants.{Sp, T0}
@@ -25,52 +26,53 @@ use Rattle.rv_play.specs.Machine.{Machine, On, code_base, code_limit, control_ba
 use Rattle.rv_play.specs.CodePlay.{Place, Point}
 use Rattle.rv_play.specs.Good.{KeepsRegs, RefinesMemory}
 use Rattle.rv_play.proofs.Lines.{Stands, stands-apart, Goes, goes-then, goes-none, plain-step, moved, next-regs, load-acts, store-acts}
-use Rattle.fast_isel.specs.Small.{IsSmallOperand}
-use Rattle.fast_isel.specs.Code.{operand_code}
+use Rattle.fast_isel.specs.Operations.{IsSlotOperand, value_code}
 use Rattle.fast_isel.specs.Blocks.{load_next, store_next, next_code, next_of, nexts_code, phis_code}
-use Rattle.fast_isel.specs.Forms.{IsEdgeOperand}
 use Rattle.fast_isel.specs.Labels.{Hops}
 use Rattle.fast_isel.proofs.Const.{put, write-is}
-use Rattle.fast_isel.proofs.Frame.{Is, Holds, IsScratch, scratch-t0, saved_regs, hold-put, hold-store, stored_point, store-goes, operand-loads}
+use Rattle.fast_isel.proofs.Frame.{Is, Holds, IsScratch, scratch-t0, saved_regs, hold-put, hold-store, stored_point, store-goes}
 use Rattle.fast_isel.proofs.Template.{Through}
-use Rattle.fast_isel.proofs.Body.{operand-short}
+use Rattle.fast_isel.proofs.Operations.{value-short, value-brings}
 
 -- what a phi takes from a block
 abbrev pub IsPhiOperand : ℕ → ℕ → Op → Type 0
-IsPhiOperand n from (Phi pairs) = IsEdgeOperand n (on_edge from pairs)
+IsPhiOperand n from (Phi pairs) = IsSlotOperand n (on_edge from pairs)
 IsPhiOperand n from _ = Unit {0}
 
 -- ---- lengths
 
-next-short : (n d : ℕ) (o : Operand) → IsEdgeOperand n o → length (next_code d o) ≤ 9
-next-short n d (Local i) h = let one = length-append (operand_code T0 (Local i)) (store_next T0 d ∷ []) in let o = operand-short n T0 (Local i) h in omega (arith, one, o)
-next-short n d (Num k) h = let one = length-append (operand_code T0 (Num k)) (store_next T0 d ∷ []) in let o = operand-short n T0 (Num k) h in omega (arith, one, o)
-next-short n d Null h = absurd h
-next-short n d (PlaceOf g o) h = absurd h
-next-short n d Poison h = omega arith
+pub next-short : (globals : List Global) (d : ℕ) (o : Operand) → length (next_code globals d o) ≤ 9
+next-short globals d (Local i) = omega arith
+next-short globals d (Num k) = let one = length-append (value_code globals T0 (Num k)) (store_next T0 d ∷ []) in let o = value-short globals T0 (Num k) in omega (arith, one, o)
+next-short globals d Null = let one = length-append (value_code globals T0 Null) (store_next T0 d ∷ []) in let o = value-short globals T0 Null in omega (arith, one, o)
+next-short globals d (PlaceOf g i) = let one = length-append (value_code globals T0 (PlaceOf g i)) (store_next T0 d ∷ []) in let o = value-short globals T0 (PlaceOf g i) in omega (arith, one, o)
+next-short globals d Poison = omega arith
 
-next-of-short : (n d from : ℕ) (op : Op) → IsPhiOperand n from op → length (next_of d from op) ≤ 9
-next-of-short n d from (Phi pairs) h = next-short n d (on_edge from pairs) h
-next-of-short n d from (Binary op flags a b) h = omega arith
-next-of-short n d from (Icmp pred flags ty a b) h = omega arith
-next-of-short n d from (Cast op flags ty a) h = omega arith
-next-of-short n d from (Select c a b) h = omega arith
-next-of-short n d from (Freeze a) h = omega arith
-next-of-short n d from (Alloca ty count) h = omega arith
-next-of-short n d from (LoadOf a) h = omega arith
-next-of-short n d from (StoreOf ty a b) h = omega arith
-next-of-short n d from (Gep ty a indices) h = omega arith
-next-of-short n d from (Call g arguments) h = omega arith
-next-of-short n d from (CallBuiltIn which arguments) h = omega arith
-next-of-short n d from (Ret a) h = omega arith
-next-of-short n d from (Br to) h = omega arith
-next-of-short n d from (CondBr c x y) h = omega arith
-next-of-short n d from (Switch ty a otherwise cases) h = omega arith
-next-of-short n d from Unreachable h = omega arith
+next-of-short : (globals : List Global) (d from : ℕ) (op : Op) → length (next_of globals d from op) ≤ 9
+next-of-short globals d from (Phi pairs) = next-short globals d (on_edge from pairs)
+next-of-short globals d from (Binary op flags a b) = omega arith
+next-of-short globals d from (Icmp pred flags ty a b) = omega arith
+next-of-short globals d from (Cast op flags ty a) = omega arith
+next-of-short globals d from (Select c a b) = omega arith
+next-of-short globals d from (Freeze a) = omega arith
+next-of-short globals d from (Alloca ty count) = omega arith
+next-of-short globals d from (LoadOf a) = omega arith
+next-of-short globals d from (StoreOf ty a b) = omega arith
+next-of-short globals d from (Gep ty a indices) = omega arith
+next-of-short globals d from (Call g arguments) = omega arith
+next-of-short globals d from (CallBuiltIn which arguments) = omega arith
+next-of-short globals d from (Ret a) = omega arith
+next-of-short globals d from (Br to) = omega arith
+next-of-short globals d from (CondBr c x y) = omega arith
+next-of-short globals d from (Switch ty a otherwise cases) = omega arith
+next-of-short globals d from Unreachable = omega arith
 
 pub phis-length : (function : Function) (to at : ℕ) (insts : List Inst) → length (phis_code function to at insts) ≡ 2 * length insts
 phis-length function to at [] = refl
 phis-length function to at (inst ∷ insts) = let rest = phis-length function to (at + 1) insts in omega (arith, rest)
+
+pub units-some : (inst : Inst) → 1 ≤ units inst
+units-some inst = omega arith
 
 pub units-many : (insts : List Inst) → length insts ≤ sum_by units insts
 units-many [] = omega arith
@@ -85,6 +87,9 @@ module _ (program : Program) (function : Function) (a : Invocation) (s : Machine
 
   abbrev Held : List Value → Memory → Point → Type 0
   Held = Holds a s low frame
+
+  abbrev globals : List Global
+  globals = program.module_.globals
 
   abbrev pub next-at : Point → ℕ → ℕ
   next-at p d = load_bytes p.machine.control (low + (32 * d + 16)) 8
@@ -162,24 +167,27 @@ module _ (program : Program) (function : Function) (a : Invocation) (s : Machine
   below-is : (value : Value) (v x : ℕ) → Is value v → ((k : ℕ) → value ≡ Some k → k < 2 ^ 64) → x ≡ v % 2 ^ 64 → Is value x
   below-is value v x is fits e = λ k h. let same = is k h in let lt = fits k h in omega (arith, same, lt, e)
 
-  next-loaded : (o : Operand) (d : ℕ) (values : List Value) (here : Memory) (p : Point) → IsSmallOperand n o → d < n → ((k : ℕ) → operand program values o ≡ Some k → k < 2 ^ 64) → Held values here p
-      → Stands place p.machine.regs.pc (operand_code T0 o ++ store_next T0 d ∷ []) → Stored (operand_code T0 o ++ store_next T0 d ∷ []) d (operand program values o) values here p
+  next-loaded : (o : Operand) (d : ℕ) (values : List Value) (here : Memory) (p : Point) → IsSlotOperand n o → d < n → ((k : ℕ) → operand program values o ≡ Some k → k < 2 ^ 64) → Held values here p
+      → Stands place p.machine.regs.pc (value_code globals T0 o ++ store_next T0 d ∷ []) → Stored (value_code globals T0 o ++ store_next T0 d ∷ []) d (operand program values o) values here p
   next-loaded o d values here p small inside fits h st =
-      let c0 : List Instr = operand_code T0 o in
+      let c0 : List Instr = value_code globals T0 o in
       let parts = stands-apart place p.machine.regs.pc c0 (store_next T0 d ∷ []) st in
-      let l0 = operand-loads a s low frame m functions room place lowb highb bottom top program values here p T0 o n scratch-t0 (omega (arith, is-frame)) (omega (arith, is-frame)) is-frame small h parts.0 in
-      let p0 : Point = put p T0 l0.number (length c0) in
-      let h0 = hold-put a s low frame values here p T0 l0.number (length c0) scratch-t0 h in
-      let run1 = next-goes values here p0 T0 d inside h0 parts.1 in
-      let q : Point = next_point p0 d l0.number in
+      let l0 = value-brings program a s low frame n m functions room place lowb highb bottom top is-frame values here p T0 o scratch-t0 small h parts.0 in
+      let p0 : Point = l0.point in
+      let pc0 = l0.pc in
+      let x : ℕ = p0.machine.regs.x 5 in
+      let run1 = next-goes values here p0 T0 d inside l0.holds (subst (λ (pc : ℕ). Stands place pc (store_next T0 d ∷ [])) (sym pc0) parts.1) in
+      let q : Point = next_point p0 d x in
       let len = length-append c0 (store_next T0 d ∷ []) in
       record {
         point = q;
         run = subst (λ (k : ℕ). Runs k p q) (sym len) (goes-then m functions place lowb highb (length c0) 1 p p0 q l0.run run1);
-        pc = omega (arith, len);
-        holds = hold-next values here p0 d l0.number inside h0;
-        next = below-is (operand program values o) l0.number (next-at q d) l0.is fits (load_stored p.machine.control (low + (32 * d + 16)) 8 l0.number);
-        others = λ e ne. load_outside p.machine.control (low + (32 * d + 16)) 8 l0.number (low + (32 * e + 16)) 8 (nexts-apart e d ne);
+        pc = omega (arith, len, pc0);
+        holds = hold-next values here p0 d x inside l0.holds;
+        next = below-is (operand program values o) x (next-at q d) l0.is fits (load_stored p0.machine.control (low + (32 * d + 16)) 8 x);
+        others = λ e ne.
+            load_outside p0.machine.control (low + (32 * d + 16)) 8 x (low + (32 * e + 16)) 8 (nexts-apart e d ne)
+            ∙ ap (λ (c : ℕ → ℕ). load_bytes c (low + (32 * e + 16)) 8) l0.control;
       }
 
   nothing-stored : (d : ℕ) (values : List Value) (here : Memory) (p : Point) → Held values here p → Stored [] d None values here p
@@ -192,16 +200,16 @@ module _ (program : Program) (function : Function) (a : Invocation) (s : Machine
     others = λ e ne. refl;
   }
 
-  next-stored : (o : Operand) (d : ℕ) (values : List Value) (here : Memory) (p : Point) → IsEdgeOperand n o → d < n → ((k : ℕ) → operand program values o ≡ Some k → k < 2 ^ 64) → Held values here p
-      → Stands place p.machine.regs.pc (next_code d o) → Stored (next_code d o) d (operand program values o) values here p
+  next-stored : (o : Operand) (d : ℕ) (values : List Value) (here : Memory) (p : Point) → IsSlotOperand n o → d < n → ((k : ℕ) → operand program values o ≡ Some k → k < 2 ^ 64) → Held values here p
+      → Stands place p.machine.regs.pc (next_code globals d o) → Stored (next_code globals d o) d (operand program values o) values here p
   next-stored (Local i) d values here p small inside fits h st = next-loaded (Local i) d values here p small inside fits h st
   next-stored (Num k) d values here p small inside fits h st = next-loaded (Num k) d values here p small inside fits h st
-  next-stored Null d values here p small inside fits h st = absurd small
-  next-stored (PlaceOf g o) d values here p small inside fits h st = absurd small
+  next-stored Null d values here p small inside fits h st = next-loaded Null d values here p small inside fits h st
+  next-stored (PlaceOf g o) d values here p small inside fits h st = next-loaded (PlaceOf g o) d values here p small inside fits h st
   next-stored Poison d values here p small inside fits h st = nothing-stored d values here p h
 
   op-stored : (op : Op) (from d : ℕ) (values : List Value) (here : Memory) (p : Point) → IsPhiOperand n from op → d < n → ((k : ℕ) → phi_value program values from op ≡ Some k → k < 2 ^ 64) → Held values here p
-      → Stands place p.machine.regs.pc (next_of d from op) → Stored (next_of d from op) d (phi_value program values from op) values here p
+      → Stands place p.machine.regs.pc (next_of globals d from op) → Stored (next_of globals d from op) d (phi_value program values from op) values here p
   op-stored (Phi pairs) from d values here p small inside fits h st = next-stored (on_edge from pairs) d values here p small inside fits h st
   op-stored (Binary op flags x y) from d values here p small inside fits h st = nothing-stored d values here p h
   op-stored (Icmp pred flags ty x y) from d values here p small inside fits h st = nothing-stored d values here p h
@@ -235,14 +243,14 @@ module _ (program : Program) (function : Function) (a : Invocation) (s : Machine
 
     pub record Nexts (values : List Value) (here : Memory) (p : Point) (at : ℕ) (insts : List Inst) : Type 0 where
       pub point : Point
-      pub run : Runs (length (nexts_code function from to at insts)) p point
-      pub pc : point.machine.regs.pc ≡ p.machine.regs.pc + 4 * length (nexts_code function from to at insts)
-      pub short : length (nexts_code function from to at insts) ≤ 9 * length insts
+      pub run : Runs (length (nexts_code globals function from to at insts)) p point
+      pub pc : point.machine.regs.pc ≡ p.machine.regs.pc + 4 * length (nexts_code globals function from to at insts)
+      pub short : length (nexts_code globals function from to at insts) ≤ 9 * length insts
       pub holds : Held values here point
       pub next : AreNext values at insts point
       pub lower : (e : ℕ) → e < number_at function to at → next-at point e ≡ next-at p e
 
-    pub nexts-go : (values : List Value) (here : Memory) (insts : List Inst) (p : Point) (at : ℕ) → AreReady values at insts → Held values here p → Stands place p.machine.regs.pc (nexts_code function from to at insts)
+    pub nexts-go : (values : List Value) (here : Memory) (insts : List Inst) (p : Point) (at : ℕ) → AreReady values at insts → Held values here p → Stands place p.machine.regs.pc (nexts_code globals function from to at insts)
         → Nexts values here p at insts
     nexts-go values here [] p at ready h st = record {
       point = p;
@@ -255,13 +263,13 @@ module _ (program : Program) (function : Function) (a : Invocation) (s : Machine
     }
     nexts-go values here (inst ∷ insts) p at ready h st =
         let d = number_at function to at in
-        let c0 = next_of d from inst.op in
-        let c1 = nexts_code function from to (at + 1) insts in
+        let c0 = next_of globals d from inst.op in
+        let c1 = nexts_code globals function from to (at + 1) insts in
         let parts = stands-apart place p.machine.regs.pc c0 c1 st in
         let one = op-stored inst.op from d values here p ready.3 ready.0 ready.4 h parts.0 in
         let rest = nexts-go values here insts one.point (at + 1) ready.5 one.holds (subst (λ (q : ℕ). Stands place q c1) (sym one.pc) parts.1) in
         let len = length-append c0 c1 in
-        let few = next-of-short n d from inst.op ready.3 in
+        let few = next-of-short globals d from inst.op in
         let more = rest.short in
         let here' = one.pc in let there' = rest.pc in
         let follows = ready.1 in
@@ -324,8 +332,8 @@ module _ (program : Program) (function : Function) (a : Invocation) (s : Machine
   -- ---- a jump
 
   -- a jump changes nothing in the frame
-  keeps-hopped : (p : Point) (to : ℕ) (h : Hops m place p to) → KeepsRegs saved_regs p.machine.regs h.point.machine.regs
-  keeps-hopped p to h =
+  keeps-hopped : (least : ℕ) (p : Point) (to : ℕ) (h : Hops m place least p to) → KeepsRegs saved_regs p.machine.regs h.point.machine.regs
+  keeps-hopped least p to h =
       let o = λ (i : ℕ) (ne : i ≢ 31). h.others i ne in
       (o 8 (λ z. omega (arith, z)), (o 9 (λ z. omega (arith, z)), (o 18 (λ z. omega (arith, z)), (o 19 (λ z. omega (arith, z)), (o 20 (λ z. omega (arith, z)), (o 21 (λ z. omega (arith, z)), (o 22 (λ z. omega (arith, z)), (o 23 (λ z. omega (arith, z)), (o 24 (λ z. omega (arith, z)), (o 25 (λ z. omega (arith, z)), (o 26 (λ z. omega (arith, z)), (o 27 (λ z. omega (arith, z)), tt))))))))))))
 
@@ -333,17 +341,17 @@ module _ (program : Program) (function : Function) (a : Invocation) (s : Machine
   keeps-both [] r t u h k = tt
   keeps-both (x ∷ rs) r t u h k = (k.0 ∙ h.0, keeps-both rs r t u h.1 k.1)
 
-  pub hold-hopped : (values : List Value) (here : Memory) (p : Point) (to : ℕ) → Held values here p → (h : Hops m place p to) → Held values here h.point
-  hold-hopped values here p to h hop = record {
+  pub hold-hopped : (least : ℕ) (values : List Value) (here : Memory) (p : Point) (to : ℕ) → Held values here p → (h : Hops m place least p to) → Held values here h.point
+  hold-hopped least values here p to h hop = record {
     sp = hop.others 2 (λ z. omega (arith, z)) ∙ h.sp;
     slots = λ i v e. ap (λ (c : ℕ → ℕ). load_bytes c (low + 32 * i) 8) hop.control ∙ h.slots i v e;
     ra = ap (λ (c : ℕ → ℕ). load_bytes c (low + (frame - 8)) 8) hop.control ∙ h.ra;
-    saved = keeps-both saved_regs s.regs p.machine.regs hop.point.machine.regs h.saved (keeps-hopped p to hop);
+    saved = keeps-both saved_regs s.regs p.machine.regs hop.point.machine.regs h.saved (keeps-hopped least p to hop);
     kept = λ x le. ap (λ (c : ℕ → ℕ). c x) hop.control ∙ h.kept x le;
     memory' = subst (λ (b : ℕ → ℕ). RefinesMemory here b) (sym hop.bytes) h.memory';
     counted = hop.counted ∙ h.counted;
   }
 
   -- the next values stand behind a jump
-  pub next-hopped : (from to : ℕ) (values : List Value) (insts : List Inst) (at : ℕ) (p : Point) (target : ℕ) (h : Hops m place p target) → AreNext from to values at insts p → AreNext from to values at insts h.point
-  next-hopped from to values insts at p target h next = next-alike from to values insts at p h.point (λ e. ap (λ (c : ℕ → ℕ). load_bytes c (low + (32 * e + 16)) 8) h.control) next
+  pub next-hopped : (least from to : ℕ) (values : List Value) (insts : List Inst) (at : ℕ) (p : Point) (target : ℕ) (h : Hops m place least p target) → AreNext from to values at insts p → AreNext from to values at insts h.point
+  next-hopped least from to values insts at p target h next = next-alike from to values insts at p h.point (λ e. ap (λ (c : ℕ → ℕ). load_bytes c (low + (32 * e + 16)) 8) h.control) next

@@ -1,11 +1,12 @@
 -- Words that stand as the code of a function of several blocks are good.
 use Rattle.std.proofs.Common.{◌≡◌, ◌≢◌, refl, sym, ap, subst, ◌∙◌, ℕ, zero, suc, ◌+◌, ◌-◌, ◌*◌, ◌%◌, ◌<◌, ◌≤◌, List, [], ◌++◌, length, map, Option, Some, None, Bool, true, false, cond, arith}
-use Rattle.std.specs.Prelude.{nat_lt, drop}
+use Rattle.std.specs.Prelude.{nat_lt, drop, slice_get}
 use Rattle.std.proofs.lemmas.Bool.{ltb-true, ltb-false}
 use Rattle.std.proofs.lemmas.List.{append-nil}
 use Rattle.std.proofs.lemmas.Option.{slice_get_within}
 use Rattle.ir_core.specs.declared.code.Inst.{Inst}
 use Rattle.ir_core.specs.declared.program.Function.{Function}
+use Rattle.ir_core.specs.declared.program.Global.{Global}
 use Rattle.ir_core.specs.Units.{frame, values as value_count}
 use Rattle.ir_meaning.specs.declared.activation.Activation.{Activation}
 use Rattle.ir_meaning.specs.declared.calls.Reply.{Reply}
@@ -22,22 +23,26 @@ use Rattle.rv_play.specs.Machine.{Machine, control_base}
 use Rattle.rv_play.specs.CodePlay.{Place, Point, CodeReply, code_run, code_play, place_of, entered as entered_at}
 use Rattle.rv_play.specs.Good.{IsBase, Enters, AreReplies, RefinesEnd, RefinesArgs, IsRunning, arg_regs}
 use Rattle.rv_play.proofs.Lines.{Stands}
-use Rattle.fast_isel.specs.Code.{prologue, params_code}
-use Rattle.fast_isel.specs.Blocks.{Item, plain, phis_code, block_label, block_items, blocks_items, insts_items, function_items}
+use Rattle.fast_isel.specs.Code.{prologue}
+use Rattle.fast_isel.specs.Blocks.{Item, plain, phis_code, block_label, block_items, blocks_items, insts_items, arguments_code, function_items}
 use Rattle.fast_isel.specs.Labels.{StandsAs}
 use Rattle.fast_isel.specs.Forms.{IsFlow}
 use Rattle.fast_isel.specs.Laws.{FlowCodeIsGood}
 use Rattle.fast_isel.proofs.Frame.{Holds}
 use Rattle.fast_isel.proofs.Body.{arguments-read}
-use Rattle.fast_isel.proofs.Entry.{p9 as nine, overflows, opens, opens-stored, params-go}
-use Rattle.fast_isel.proofs.Whole.{args-are, first-number, params-length}
-use Rattle.fast_isel.proofs.Labelled.{plain-apart, block-stands}
+use Rattle.fast_isel.proofs.Entry.{p9 as nine, overflows, opens, opens-stored}
+use Rattle.fast_isel.proofs.Arguments.{Begun, are-given, arguments-go, arguments-short, args-inside}
+use Rattle.fast_isel.proofs.Whole.{first-number}
+use Rattle.fast_isel.proofs.Labelled.{plain-apart, block-stands, StandsThere}
 use Rattle.fast_isel.proofs.Flow.{Here, steps}
 use Rattle.fast_isel.proofs.Simulation.{Begins, OpensAt, OverflowsAt, refines-play, ends-play}
 
 module _ (program : Program) (typed : IsTyped program) (function : Function) (flow : IsFlow function) (a : Invocation) (is : IsInvocation (meaning program) a) (there : function_at program a.symbol ≡ Some function)
     (s : Machine) (words : List ℕ) (base : ℕ) (stands : IsBase words base) (enters : Enters (meaning program) a s) (labels : ℕ → ℕ) (aligned : (label : ℕ) → labels label % 4 ≡ 0)
-    (code : StandsAs (meaning program) (place_of words base s) labels base (function_items a.symbol function (frame function))) where
+    (code : StandsAs (meaning program) (place_of words base s) labels base (function_items program.module_.globals a.symbol function (frame function))) where
+  abbrev globals : List Global
+  globals = program.module_.globals
+
   abbrev n : ℕ
   n = value_count function
 
@@ -54,29 +59,30 @@ module _ (program : Program) (typed : IsTyped program) (function : Function) (fl
   At = StandsAs (meaning program) place labels
 
   abbrev blocks : List Item
-  blocks = blocks_items function fr 0 (length function.blocks)
+  blocks = blocks_items globals function fr 0 (length function.blocks)
 
-  opening : Stands place base (prologue a.symbol fr) × At (base + 4 * length (prologue a.symbol fr)) (plain (params_code 0 np) ++ blocks)
-  opening = plain-apart (meaning program) place labels base (prologue a.symbol fr) (plain (params_code 0 np) ++ blocks) code
+  opening : Stands place base (prologue a.symbol fr) × At (base + 4 * length (prologue a.symbol fr)) (plain (arguments_code 0 function.params) ++ blocks)
+  opening = plain-apart (meaning program) place labels base (prologue a.symbol fr) (plain (arguments_code 0 function.params) ++ blocks) code
 
-  storing : Stands place (base + 4 * length (prologue a.symbol fr)) (params_code 0 np) × At (base + 4 * length (prologue a.symbol fr) + 4 * length (params_code 0 np)) blocks
-  storing = plain-apart (meaning program) place labels (base + 4 * length (prologue a.symbol fr)) (params_code 0 np) blocks opening.1
+  storing : Stands place (base + 4 * length (prologue a.symbol fr)) (arguments_code 0 function.params) × At (base + 4 * length (prologue a.symbol fr) + 4 * length (arguments_code 0 function.params)) blocks
+  storing = plain-apart (meaning program) place labels (base + 4 * length (prologue a.symbol fr)) (arguments_code 0 function.params) blocks opening.1
 
-  placed : (block : ℕ) → block < length function.blocks → (more : List Item) × At (labels (block_label block)) (block_items function fr block ++ more)
+  placed : (block : ℕ) → block < length function.blocks → StandsThere (meaning program) place labels globals function fr block (length function.blocks)
   placed block lt =
-      let pc = base + 4 * length (prologue a.symbol fr) + 4 * length (params_code 0 np) in
-      let r = block-stands (meaning program) place labels function fr (length function.blocks) 0 pc block [] (subst (λ (items : List Item). At pc items) (sym (append-nil blocks)) storing.1) lt in
+      let pc = base + 4 * length (prologue a.symbol fr) + 4 * length (arguments_code 0 function.params) in
+      let r = block-stands (meaning program) place labels globals function fr (length function.blocks) 0 pc block [] (subst (λ (items : List Item). At pc items) (sym (append-nil blocks)) storing.1) lt in
       let same : 0 + block ≡ block = omega arith in
-      (r.0, subst (λ (b : ℕ). At (labels (block_label b)) (block_items function fr b ++ r.0)) same r.1)
+      let many : 0 + length function.blocks ≡ length function.blocks = omega arith in
+      subst (λ (b : ℕ). StandsThere (meaning program) place labels globals function fr b (length function.blocks)) same (subst (λ (k : ℕ). StandsThere (meaning program) place labels globals function fr (0 + block) k) many r)
 
-  first-label : (many pc : ℕ) → 1 ≤ many → At pc (blocks_items function fr 0 many) → labels (block_label 0) ≡ pc
+  first-label : (many pc : ℕ) → 1 ≤ many → At pc (blocks_items globals function fr 0 many) → labels (block_label 0) ≡ pc
   first-label zero pc some h = absurd (let bad : ⊥ = omega arith in bad)
   first-label (suc many) pc some h = h.0
 
   -- the entry block begins with an instruction that isn't a phi
-  entry-items : (pc : ℕ) (more : List Item) → At pc (block_items function fr 0 ++ more) → At pc (insts_items function fr 0 0 (insts_at function 0) ++ more)
+  entry-items : (pc : ℕ) (more : List Item) → At pc (block_items globals function fr 0 ++ more) → At pc (insts_items globals function fr 0 0 (insts_at function 0) ++ more)
   entry-items pc more h =
-      subst (λ (heads : List Inst). At pc ((plain (phis_code function 0 0 heads) ++ insts_items function fr 0 (length heads) (drop (length heads) (insts_at function 0))) ++ more)) flow.entry h.1
+      subst (λ (heads : List Inst). At pc ((plain (phis_code function 0 0 heads) ++ insts_items globals function fr 0 (length heads) (drop (length heads) (insts_at function 0))) ++ more)) flow.entry h.1
 
   -- the first state of the activation
   abbrev first : Activation
@@ -122,27 +128,36 @@ module _ (program : Program) (typed : IsTyped program) (function : Function) (fl
   opened room is-open replies answers rs =
       let few = flow.few in
       let small = flow.frames in
+      let high = is.sp_high in
       let wide : control_base + fr ≤ a.sp = omega (arith, room) in
       let o = opens a s (a.sp - fr) fr (meaning program) typed.functions typed.room place stands.low stands.high is.symbol (omega arith) small enters.sp is.sp_low is.sp_high refl enters.regs a.memory enters.memory wide opening.0 in
       let s0 = opens-stored a s (a.sp - fr) fr (meaning program) typed.functions typed.room place stands.low stands.high is.symbol (omega arith) small enters.sp is.sp_low is.sp_high refl enters.regs a.memory enters.memory wide in
       let p9 : Point = nine a s (a.sp - fr) fr (meaning program) typed.functions typed.room place stands.low stands.high is.symbol (omega arith) small enters.sp is.sp_low is.sp_high refl enters.regs a.memory enters.memory wide in
       let at9 : base + 4 * length (prologue a.symbol fr) ≡ p9.machine.regs.pc = omega arith in
-      let w = params-go a s (a.sp - fr) fr (meaning program) typed.functions typed.room place stands.low stands.high is.symbol (omega arith) small enters.sp is.sp_low is.sp_high refl enters.regs a.memory enters.memory wide 0 np p9 (omega (arith, few)) (omega arith) s0
-      (subst (λ (pc : ℕ). Stands place pc (params_code 0 np)) at9 storing.0) in
+      let begun : Begun a s (a.sp - fr) fr (meaning program) typed.functions typed.room place stands.low stands.high (omega (arith, wide)) (omega (arith, wide, high)) enters.regs a.memory a.args 0 p9 = record {
+        holds = s0.holds;
+        slots = λ i v lt e. absurd (let bad : ⊥ = omega (arith, lt) in bad);
+        registers = λ j le. s0.registers j (omega (arith, le));
+      } in
+      let fit = first-args program typed a is function there in
+      let given = are-given a s (a.sp - fr) fr (meaning program) typed.functions typed.room place stands.low stands.high (omega (arith, wide)) (omega (arith, wide, high)) enters.regs a.memory a.args 0 function.params a.args arg_regs (λ j. s.regs.x (10 + j))
+      (arguments-read s.regs) params-words (omega (arith, few)) fit (typed.typed a.symbol function there).params (λ k. ap s.regs.x (let z : 10 + k ≡ 10 + (0 + k) = omega arith in z)) (λ k v e. ap (slice_get a.args) (let z : k ≡ 0 + k = omega arith in z) ∙ e) in
+      let w = arguments-go a s (a.sp - fr) fr (meaning program) typed.functions typed.room place stands.low stands.high (omega (arith, wide)) (omega (arith, wide, high)) enters.regs a.memory a.args 0 function.params p9 (omega (arith, few)) (omega arith) given begun
+      (subst (λ (pc : ℕ). Stands place pc (arguments_code 0 function.params)) at9 storing.0) in
       let q : Point = w.point in
       let pc = w.pc in
-      let len = params-length 0 np in
+      let len = arguments-short 0 function.params in
       let start-even = stands.aligned in
-      let label = first-label (length function.blocks) (base + 4 * length (prologue a.symbol fr) + 4 * length (params_code 0 np)) flow.some storing.1 in
+      let label = first-label (length function.blocks) (base + 4 * length (prologue a.symbol fr) + 4 * length (arguments_code 0 function.params)) flow.some storing.1 in
       let block0 = placed 0 flow.some in
-      let there-is : labels (block_label 0) ≡ q.machine.regs.pc = omega (arith, pc, len, at9, label) in
-      let held0 = w.stored.holds in
+      let there-is : labels (block_label 0) ≡ q.machine.regs.pc = omega (arith, pc, at9, label) in
+      let held0 = w.begun.holds in
       let held : Holds a s (a.sp - fr) fr (first_values function a.args) a.memory q = record {
         sp = held0.sp;
         slots = λ i v e.
-            let known = args-are function.params a.args arg_regs (λ j. s.regs.x (10 + j)) s.regs flow.params (arguments-read s.regs) params-words (omega (arith, few)) (first-args program typed a is function there) (λ j. enters.regs (10 + j)) i v (first-number a.args _ i v None refl e) in
-            let lt = known.0 in
-            w.stored.slots i (omega (arith, lt)) ∙ known.1;
+            let among = first-number a.args _ i v None refl e in
+            let inside = args-inside function.params a.args fit i (Some v) among in
+            w.begun.slots i v (omega (arith, inside)) among;
         ra = held0.ra;
         saved = held0.saved;
         kept = held0.kept;
@@ -153,16 +168,19 @@ module _ (program : Program) (typed : IsTyped program) (function : Function) (fl
         stood = stood-first is-open;
         long = refl;
         held = held;
-        even = omega (arith, pc, start-even, len);
+        even = omega (arith, pc, start-even);
         rest = block0.0;
-        code = subst (λ (k : ℕ). At k (insts_items function fr 0 0 (insts_at function 0) ++ block0.0)) there-is (entry-items (labels (block_label 0)) block0.0 block0.1);
+        code = subst (λ (k : ℕ). At k (insts_items globals function fr 0 0 (insts_at function 0) ++ block0.0)) there-is (entry-items (labels (block_label 0)) block0.0 block0.1);
+        comes = block0.2;
       } in
       let all = steps program typed function flow a is there s words base stands enters room labels aligned placed in
       let at : OpensAt program a s place (Here program typed function flow a is there s words base stands enters room labels aligned placed) all first (entered_at base s) = record {
-        count = 8 + np;
+        count = 8 + length (arguments_code 0 function.params);
         point = q;
-        few = omega (arith, few);
-        run = λ f cs. ap (λ (k : ℕ). code_run (meaning program) place k (entered_at base s) cs) (let z : 8 + np + f ≡ 8 + (np + f) = omega arith in z) ∙ o (np + f) cs ∙ w.run f cs;
+        few = omega (arith, few, len);
+        run = λ f cs.
+            ap (λ (k : ℕ). code_run (meaning program) place k (entered_at base s) cs) (let z : 8 + length (arguments_code 0 function.params) + f ≡ 8 + (length (arguments_code 0 function.params) + f) = omega arith in z)
+            ∙ o (length (arguments_code 0 function.params) + f) cs ∙ w.run f cs;
         at = here;
       } in
       let begins = subst (λ (e : Entry). Begins program a s place (Here program typed function flow a is there s words base stands enters room labels aligned placed) all (entered_at base s) e) (sym is-open) at in (
@@ -195,4 +213,4 @@ flow-is-good program symbol function words typed flow there everywhere few = rec
         let e = everywhere (place_of words base s) refl stands in
         let there' : function_at program a.symbol ≡ Some function = ap (function_at program) same ∙ there in
         shown program typed function flow a is there' s words base stands enters e.0 e.1
-        (subst (λ (g : ℕ). StandsAs (meaning program) (place_of words base s) e.0 base (function_items g function (frame function))) (sym same) e.2)
+        (subst (λ (g : ℕ). StandsAs (meaning program) (place_of words base s) e.0 base (function_items program.module_.globals g function (frame function))) (sym same) e.2)

@@ -1,8 +1,8 @@
 -- Operators of a width up to 64, by operations on 64 bits.
-use Rattle.std.proofs.Common.{◌≡◌, ◌≢◌, refl, sym, ap, subst, ◌∙◌, ℕ, zero, suc, ◌+◌, ◌-◌, ◌*◌, ◌/◌, ◌%◌, ◌^◌, ◌<◌, ◌≤◌, ⊎_elim, Bool, true, false, cond, not, arith, mod-eq_of_lt}
-use Rattle.std.specs.Prelude.{◌==◌, nat_lt, nat_le, ℤ, pos, negsuc, ◌-ℤ◌, int_div, int_rem, int_lt, int_le, unsigned_abs}
+use Rattle.std.proofs.Common.{◌≡◌, ◌≢◌, sym, ap, subst, ◌∙◌, ℕ, ◌+◌, ◌-◌, ◌*◌, ◌/◌, ◌%◌, ◌^◌, ◌<◌, ◌≤◌, ⊎_elim, Bool, false, cond, not, arith, mod-eq_of_lt}
+use Rattle.std.specs.Prelude.{◌==◌, ℤ, pos, negsuc, ◌-ℤ◌, int_div, int_rem, int_lt, int_le, unsigned_abs}
 use Rattle.std.specs.Int.{w64, cast_signed, int_shr}
-use Rattle.std.proofs.lemmas.Bool.{cases_lt, lt-ltb, le-ltb, eq-eqb, ne_eqb}
+use Rattle.std.proofs.lemmas.Bool.{cases_lt, lt-ltb, le-ltb, ne_eqb}
 use Rattle.std.proofs.lemmas.Int.{ints}
 use Rattle.std.proofs.lemmas.Nat.{pow_pos, pow-add, shl-shr, field_of, mod-pow-add, shl_below, shl_whole, shr_high, mod_low, shr_below, shr_le, shr_split}
 use Rattle.rv_core.specs.Step.{modulo, op_value}

@@ -1,28 +1,25 @@
 -- Comparisons, casts and choices of a width up to 64.
-use Rattle.std.proofs.Common.{◌≡◌, ◌≢◌, refl, sym, ap, ap₂, subst, ◌∙◌, ℕ, zero, suc, ◌+◌, ◌-◌, ◌*◌, ◌/◌, ◌%◌, ◌^◌, ◌<◌, ◌≤◌, ⊎_elim, List, [], ◌∷◌, ◌++◌, Some, None, Bool, true, false, cond, not, arith, mod-eq_of_lt}
-use Rattle.std.specs.Prelude.{◌==◌, nat_lt, nat_le, ℤ, pos, negsuc, int_lt, int_le, bit_xor, bit_and}
+use Rattle.std.proofs.Common.{◌≡◌, ◌≢◌, refl, sym, ap, ap₂, subst, ◌∙◌, ℕ, zero, suc, ◌+◌, ◌-◌, ◌%◌, ◌^◌, ◌<◌, ◌≤◌, ⊎_elim, List, [], ◌∷◌, ◌++◌, Some, Bool, true, false, cond, not, arith, mod-eq_of_lt}
+use Rattle.std.specs.Prelude.{◌==◌, nat_lt, nat_le, pos, int_lt, int_le, bit_xor}
 use Rattle.std.proofs.lemmas.Bool.{cases_lt, cases_eq, ne_eqb, eq-eqb, lt-ltb, le-ltb, lt-leb, le-leb}
-use Rattle.std.proofs.lemmas.Nat.{pow_below, xor_lt, and_mask, and_comm}
-use lib.Bits.{xor_self, xor_assoc, xor_zero_r, xor_comm}
+use lib.Bits.{xor_self, xor_assoc, xor_zero_r}
 use Rattle.ir_core.specs.declared.code.Flags.{Flags}
 use Rattle.ir_core.specs.declared.code.Pred.{Pred}
 use Rattle.ir_core.specs.declared.code.Pred.TheVariants as pred
 use Rattle.ir_core.specs.declared.code.CastOp.{CastOp}
 use Rattle.ir_core.specs.declared.code.CastOp.TheVariants as cast
-use Rattle.rv_core.specs.declared.reg.Reg.{Reg}
 use Rattle.rv_core.specs.declared.reg.Reg.TheVariants.{X0, T0, T1}
 use Rattle.rv_core.specs.declared.instr.ImmOp.TheVariants.{Sltiu, Xori}
 use Rattle.rv_core.specs.declared.instr.RegOp.{RegOp}
 use Rattle.rv_core.specs.declared.instr.RegOp.TheVariants.{Slt, Sltu, Xor}
 use Rattle.rv_core.specs.declared.instr.Instr.{Instr}
 use Rattle.rv_core.specs.declared.instr.Instr.TheVariants.{Imm, Op as RegisterOp}
-use Rattle.rv_core.specs.Step.{Registers, modulo, op_value}
+use Rattle.rv_core.specs.Step.{modulo, op_value}
 use Rattle.rj_num.specs.Width.{signed}
-use Rattle.ir_meaning.specs.Value.{Value, poison_if}
 use Rattle.ir_meaning.specs.Operators.{compare, holds, bit}
 use Rattle.ir_meaning.specs.Operators.{cast as cast_value}
-use Rattle.fast_isel.specs.Narrow.{zero_extended, sign_extended, compare_code, cast_code, select_code, after_all, Turns}
-use Rattle.fast_isel.proofs.Narrow.{IsWidth, slt-is, turned-order, cut-modulo, cut-again}
+use Rattle.fast_isel.specs.Narrow.{zero_extended, sign_extended, compare_code, cast_code, Turns}
+use Rattle.fast_isel.proofs.Narrow.{IsWidth, slt-is, turned-order, cut-modulo}
 use Rattle.fast_isel.proofs.NarrowCode.{turns-then, turns-to, turns-none, on-both, on-first, written-other, kept, number, signs-first, signs-second, cuts, modulo-below, below-64}
 
 -- ---- bits

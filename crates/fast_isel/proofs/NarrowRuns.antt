@@ -1,7 +1,8 @@
 -- The code of operators runs wherever it stands: each instruction goes to the next, and only registers change.
-use Rattle.std.proofs.Common.{◌≡◌, refl, sym, ap, subst, ◌∙◌, ℕ, zero, suc, ◌+◌, ◌-◌, ◌*◌, ◌%◌, ◌^◌, ◌<◌, ◌≤◌, List, [], ◌∷◌, ◌++◌, length, Bool, true, false, cond, arith}
-use Rattle.std.specs.Prelude.{◌==◌, ℤ, pos}
-use Rattle.std.proofs.lemmas.Bool.{eq-eqb}
+use Rattle.std.proofs.Common.{◌≡◌, refl, sym, ap, subst, ◌∙◌, ℕ, suc, ◌+◌, ◌*◌, ◌≤◌, List, [], ◌∷◌, ◌++◌, length, Bool, true, false, cond, arith}
+use Rattle.std.specs.Prelude.{◌-◌, ◌^◌, ◌==◌, nat_le, pos}
+use Rattle.std.proofs.Math.Pow.{pow_mono}
+use Rattle.std.proofs.lemmas.Bool.{leb-true}
 use Rattle.std.proofs.lemmas.Int.{ints}
 use Rattle.std.proofs.lemmas.List.{length-append}
 use Rattle.ir_core.specs.declared.code.BinOp.{BinOp}
@@ -12,16 +13,16 @@ use Rattle.ir_core.specs.declared.code.CastOp.{CastOp}
 use Rattle.ir_core.specs.declared.code.CastOp.TheVariants as cast
 use Rattle.rv_core.specs.Reg.{number_of}
 use Rattle.rv_core.specs.declared.reg.Reg.{Reg}
-use Rattle.rv_core.specs.declared.reg.Reg.TheVariants.{X0, T0, T1}
-use Rattle.rv_core.specs.declared.instr.ImmOp.TheVariants.{Slli, Srli, Srai, Sltiu, Xori}
+use Rattle.rv_core.specs.declared.reg.Reg.TheVariants.{T0, T1}
+use Rattle.rv_core.specs.declared.instr.ImmOp.TheVariants.{Xori, Andi}
 use Rattle.rv_core.specs.declared.instr.RegOp.{RegOp}
-use Rattle.rv_core.specs.declared.instr.RegOp.TheVariants.{Add, And, Div, Divu, Mul, Or, Rem, Remu, Sll, Slt, Sltu, Sra, Srl, Sub, Xor}
+use Rattle.rv_core.specs.declared.instr.RegOp.TheVariants.{Add, And, Div, Divw, Divu, Mul, Or, Rem, Remw, Remu, Sraw, Sll, Slt, Sltu, Sra, Srl, Sub, Xor}
 use Rattle.rv_core.specs.declared.instr.Instr.{Instr}
 use Rattle.rv_core.specs.declared.instr.Instr.TheVariants.{Lui, Auipc, Jal, Jalr, Branch, Load, Store, Imm, Op as RegisterOp, Fence, Ecall, Ebreak}
-use Rattle.rv_core.specs.Instr.{AreValid}
+use Rattle.rv_core.specs.Instr.{IsValid, AreValid}
 use Rattle.rv_core.specs.Step.{Registers, written, write, after, next, plus}
 use Rattle.ir_meaning.specs.Plays.{Meaning}
-use Rattle.rv_play.specs.Machine.{Machine, On, act, code_base, code_limit}
+use Rattle.rv_play.specs.Machine.{On, act, code_base, code_limit}
 use Rattle.rv_play.specs.CodePlay.{Place, Point, is_jalr}
 use Rattle.rv_play.proofs.Lines.{Stands, Goes, goes-then, goes-none, plain-step, valid-append}
 use Rattle.fast_isel.specs.Narrow.{zero_extended, sign_extended, binary_code, compare_code, cast_code, after_all}
@@ -143,15 +144,27 @@ op-run op rd rs1 rs2 = record { steps = tt; valid = (tt, tt); few = omega arith 
 
 module _ (w : ℕ) (one : 1 ≤ w) (most : w ≤ 64) where
   zero-run : (rd : Reg) → IsRun 2 (zero_extended w rd)
-  zero-run rd = run-if 2 (w == 64) [] _ (λ e. run-none)
-      (λ e. record { steps = tt; valid = ((omega (arith, ints), omega (arith, ints, one)), ((omega (arith, ints), omega (arith, ints, one)), tt)); few = omega arith })
+  zero-run rd =
+      run-if 2 (w == 64) [] _ (λ e. run-none)
+      (λ e. run-if 2 (nat_le w 11) _ _
+      (λ d. record { steps = tt; valid = (mask-fits (leb-true _ _ d), tt); few = omega arith })
+      (λ d. record { steps = tt; valid = ((omega (arith, ints), omega (arith, ints, one)), ((omega (arith, ints), omega (arith, ints, one)), tt)); few = omega arith }))
+    where
+      mask-fits : w ≤ 11 → IsValid (Imm Andi rd rd (pos (2 ^ w - 1)))
+      mask-fits h = let p : 2 ^ w ≤ 2 ^ 11 = pow_mono h in (omega (arith, ints), omega (arith, ints, p))
 
   sign-run : (rd : Reg) → IsRun 2 (sign_extended w rd)
-  sign-run rd = run-if 2 (w == 64) [] _ (λ e. run-none)
-      (λ e. record { steps = tt; valid = ((omega (arith, ints), omega (arith, ints, one)), ((omega (arith, ints), omega (arith, ints, one)), tt)); few = omega arith })
+  sign-run rd =
+      run-if 2 (w == 64) [] _ (λ e. run-none)
+      (λ e. run-if 2 (w == 32) _ _
+      (λ d. record { steps = tt; valid = ((omega (arith, ints), omega (arith, ints)), tt); few = omega arith })
+      (λ d. record { steps = tt; valid = ((omega (arith, ints), omega (arith, ints, one)), ((omega (arith, ints), omega (arith, ints, one)), tt)); few = omega arith }))
 
   wider : (m n : ℕ) (xs : List Instr) → m ≤ n → IsRun m xs → IsRun n xs
   wider m n xs h k = record { steps = k.steps; valid = k.valid; few = let a = k.few in omega (arith, h, a) }
+
+  word-run : (op : RegOp) → IsRun 7 (RegisterOp op T0 T0 T1 ∷ zero_extended w T0)
+  word-run op = wider 3 7 _ (omega arith) (run-append 1 2 (RegisterOp op T0 T0 T1 ∷ []) (zero_extended w T0) (op-run op T0 T0 T1) (zero-run T0))
 
   -- an operator takes at most seven steps
   pub binary-run : (op : BinOp) → IsRun 7 (binary_code op w)
@@ -160,11 +173,11 @@ module _ (w : ℕ) (one : 1 ≤ w) (most : w ≤ 64) where
   binary-run ir.Mul = wider 3 7 _ (omega arith) (run-append 1 2 (RegisterOp Mul T0 T0 T1 ∷ []) (zero_extended w T0) (op-run Mul T0 T0 T1) (zero-run T0))
   binary-run ir.UDiv = wider 1 7 _ (omega arith) (op-run Divu T0 T0 T1)
   binary-run ir.URem = wider 1 7 _ (omega arith) (op-run Remu T0 T0 T1)
-  binary-run ir.SDiv = run-append 2 5 (sign_extended w T0) (sign_extended w T1 ++ RegisterOp Div T0 T0 T1 ∷ zero_extended w T0) (sign-run T0) (run-append 2 3 (sign_extended w T1) (RegisterOp Div T0 T0 T1 ∷ zero_extended w T0) (sign-run T1) (run-append 1 2 (RegisterOp Div T0 T0 T1 ∷ []) (zero_extended w T0) (op-run Div T0 T0 T1) (zero-run T0)))
-  binary-run ir.SRem = run-append 2 5 (sign_extended w T0) (sign_extended w T1 ++ RegisterOp Rem T0 T0 T1 ∷ zero_extended w T0) (sign-run T0) (run-append 2 3 (sign_extended w T1) (RegisterOp Rem T0 T0 T1 ∷ zero_extended w T0) (sign-run T1) (run-append 1 2 (RegisterOp Rem T0 T0 T1 ∷ []) (zero_extended w T0) (op-run Rem T0 T0 T1) (zero-run T0)))
+  binary-run ir.SDiv = run-if 7 (w == 32) (RegisterOp Divw T0 T0 T1 ∷ zero_extended w T0) (sign_extended w T0 ++ (sign_extended w T1 ++ RegisterOp Div T0 T0 T1 ∷ zero_extended w T0)) (λ e. word-run Divw) (λ e. run-append 2 5 (sign_extended w T0) (sign_extended w T1 ++ RegisterOp Div T0 T0 T1 ∷ zero_extended w T0) (sign-run T0) (run-append 2 3 (sign_extended w T1) (RegisterOp Div T0 T0 T1 ∷ zero_extended w T0) (sign-run T1) (run-append 1 2 (RegisterOp Div T0 T0 T1 ∷ []) (zero_extended w T0) (op-run Div T0 T0 T1) (zero-run T0))))
+  binary-run ir.SRem = run-if 7 (w == 32) (RegisterOp Remw T0 T0 T1 ∷ zero_extended w T0) (sign_extended w T0 ++ (sign_extended w T1 ++ RegisterOp Rem T0 T0 T1 ∷ zero_extended w T0)) (λ e. word-run Remw) (λ e. run-append 2 5 (sign_extended w T0) (sign_extended w T1 ++ RegisterOp Rem T0 T0 T1 ∷ zero_extended w T0) (sign-run T0) (run-append 2 3 (sign_extended w T1) (RegisterOp Rem T0 T0 T1 ∷ zero_extended w T0) (sign-run T1) (run-append 1 2 (RegisterOp Rem T0 T0 T1 ∷ []) (zero_extended w T0) (op-run Rem T0 T0 T1) (zero-run T0))))
   binary-run ir.Shl = wider 3 7 _ (omega arith) (run-append 1 2 (RegisterOp Sll T0 T0 T1 ∷ []) (zero_extended w T0) (op-run Sll T0 T0 T1) (zero-run T0))
   binary-run ir.LShr = wider 1 7 _ (omega arith) (op-run Srl T0 T0 T1)
-  binary-run ir.AShr = wider 5 7 _ (omega arith) (run-append 2 3 (sign_extended w T0) (RegisterOp Sra T0 T0 T1 ∷ zero_extended w T0) (sign-run T0) (run-append 1 2 (RegisterOp Sra T0 T0 T1 ∷ []) (zero_extended w T0) (op-run Sra T0 T0 T1) (zero-run T0)))
+  binary-run ir.AShr = run-if 7 (w == 32) (RegisterOp Sraw T0 T0 T1 ∷ zero_extended w T0) (sign_extended w T0 ++ (RegisterOp Sra T0 T0 T1 ∷ zero_extended w T0)) (λ e. word-run Sraw) (λ e. wider 5 7 _ (omega arith) (run-append 2 3 (sign_extended w T0) (RegisterOp Sra T0 T0 T1 ∷ zero_extended w T0) (sign-run T0) (run-append 1 2 (RegisterOp Sra T0 T0 T1 ∷ []) (zero_extended w T0) (op-run Sra T0 T0 T1) (zero-run T0))))
   binary-run ir.And = wider 1 7 _ (omega arith) (op-run And T0 T0 T1)
   binary-run ir.Or = wider 1 7 _ (omega arith) (op-run Or T0 T0 T1)
   binary-run ir.Xor = wider 1 7 _ (omega arith) (op-run Xor T0 T0 T1)
@@ -202,3 +215,66 @@ cast-run cast.PtrToInt from to a b c d = widened (zero-run to c d T0)
     widened k = record { steps = k.steps; valid = k.valid; few = let f = k.few in omega (arith, f) }
 cast-run cast.IntToPtr from to a b c d = record { steps = tt; valid = tt; few = omega arith }
 cast-run cast.Same from to a b c d = record { steps = tt; valid = tt; few = omega arith }
+
+-- ---- how long it is, whatever the width
+
+if-short : (b : Bool) (n : ℕ) (xs ys : List Instr) → length xs ≤ n → length ys ≤ n → length (cond b xs ys) ≤ n
+if-short true n xs ys h k = h
+if-short false n xs ys h k = k
+
+zero-short : (w : ℕ) (rd : Reg) → length (zero_extended w rd) ≤ 2
+zero-short w rd = if-short (w == 64) 2 [] _ (omega arith) (if-short (nat_le w 11) 2 _ _ (omega arith) (omega arith))
+
+sign-short : (w : ℕ) (rd : Reg) → length (sign_extended w rd) ≤ 2
+sign-short w rd = if-short (w == 64) 2 [] _ (omega arith) (if-short (w == 32) 2 _ _ (omega arith) (omega arith))
+
+signed-short : (w : ℕ) (op : RegOp) → length (sign_extended w T0 ++ (sign_extended w T1 ++ RegisterOp op T0 T0 T1 ∷ zero_extended w T0)) ≤ 7
+signed-short w op =
+    let a = length-append (sign_extended w T0) (sign_extended w T1 ++ RegisterOp op T0 T0 T1 ∷ zero_extended w T0) in
+    let b = length-append (sign_extended w T1) (RegisterOp op T0 T0 T1 ∷ zero_extended w T0) in
+    let c = sign-short w T0 in let d = sign-short w T1 in let e = zero-short w T0 in
+    omega (arith, a, b, c, d, e)
+
+pub binary-short : (op : BinOp) (w : ℕ) → length (binary_code op w) ≤ 7
+binary-short ir.Add w = let e = zero-short w T0 in omega (arith, e)
+binary-short ir.Sub w = let e = zero-short w T0 in omega (arith, e)
+binary-short ir.Mul w = let e = zero-short w T0 in omega (arith, e)
+binary-short ir.UDiv w = omega arith
+binary-short ir.URem w = omega arith
+binary-short ir.SDiv w = if-short (w == 32) 7 _ _ (let e = zero-short w T0 in omega (arith, e)) (signed-short w Div)
+binary-short ir.SRem w = if-short (w == 32) 7 _ _ (let e = zero-short w T0 in omega (arith, e)) (signed-short w Rem)
+binary-short ir.Shl w = let e = zero-short w T0 in omega (arith, e)
+binary-short ir.LShr w = omega arith
+binary-short ir.AShr w =
+    if-short (w == 32) 7 _ _ (let e = zero-short w T0 in omega (arith, e))
+    (let a = length-append (sign_extended w T0) (RegisterOp Sra T0 T0 T1 ∷ zero_extended w T0) in let c = sign-short w T0 in let e = zero-short w T0 in omega (arith, a, c, e))
+binary-short ir.And w = omega arith
+binary-short ir.Or w = omega arith
+binary-short ir.Xor w = omega arith
+
+both-short : (w : ℕ) (xs : List Instr) → length xs ≤ 2 → length ((sign_extended w T0 ++ sign_extended w T1) ++ xs) ≤ 6
+both-short w xs h =
+    let a = length-append (sign_extended w T0 ++ sign_extended w T1) xs in
+    let b = length-append (sign_extended w T0) (sign_extended w T1) in
+    let c = sign-short w T0 in let d = sign-short w T1 in
+    omega (arith, a, b, c, d, h)
+
+pub compare-short : (p : Pred) (w : ℕ) → length (compare_code p w) ≤ 6
+compare-short pred.Eq w = omega arith
+compare-short pred.Ne w = omega arith
+compare-short pred.Ugt w = omega arith
+compare-short pred.Uge w = omega arith
+compare-short pred.Ult w = omega arith
+compare-short pred.Ule w = omega arith
+compare-short pred.Sgt w = both-short w (RegisterOp Slt T0 T1 T0 ∷ []) (omega arith)
+compare-short pred.Sge w = both-short w (RegisterOp Slt T0 T0 T1 ∷ Imm Xori T0 T0 (pos 1) ∷ []) (omega arith)
+compare-short pred.Slt w = both-short w (RegisterOp Slt T0 T0 T1 ∷ []) (omega arith)
+compare-short pred.Sle w = both-short w (RegisterOp Slt T0 T1 T0 ∷ Imm Xori T0 T0 (pos 1) ∷ []) (omega arith)
+
+pub cast-short : (op : CastOp) (from to : ℕ) → length (cast_code op from to) ≤ 4
+cast-short cast.Trunc from to = let e = zero-short to T0 in omega (arith, e)
+cast-short cast.ZExt from to = omega arith
+cast-short cast.SExt from to = let a = length-append (sign_extended from T0) (zero_extended to T0) in let c = sign-short from T0 in let e = zero-short to T0 in omega (arith, a, c, e)
+cast-short cast.PtrToInt from to = let e = zero-short to T0 in omega (arith, e)
+cast-short cast.IntToPtr from to = omega arith
+cast-short cast.Same from to = omega arith

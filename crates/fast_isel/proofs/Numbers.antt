@@ -7,6 +7,8 @@ use Rattle.std.proofs.lemmas.List.Sums.{sum_by-cons}
 use Rattle.std.proofs.lemmas.Option.{slice_get_within}
 use Rattle.ir_core.specs.declared.types.Ty.{Ty}
 use Rattle.ir_core.specs.declared.types.Ty.TheVariants.{Void, Int, Ptr}
+use Rattle.ir_core.specs.declared.code.Operand.{Operand}
+use Rattle.ir_core.specs.declared.code.Operand.TheVariants.{Value as Local, Num, Null, Place as PlaceOf, Poison}
 use Rattle.ir_core.specs.declared.code.Op.{Op}
 use Rattle.ir_core.specs.declared.code.Op.TheVariants.{Binary, Icmp, Cast, Select, Freeze, Phi, Alloca, Load, Store, Gep, Call, BuiltIn as CallBuiltIn, Ret, Br, CondBr, Switch, Unreachable}
 use Rattle.ir_core.specs.declared.code.Inst.{Inst}
@@ -16,7 +18,8 @@ use Rattle.ir_meaning.specs.Value.{Value}
 use Rattle.ir_meaning.specs.Operators.{width}
 use Rattle.ir_meaning.specs.Step.{insts_at, number_at, phis}
 use Rattle.ir_meaning.specs.Ranges.{FitsWidth}
-use Rattle.ir_meaning.specs.Typed.{types, result_types, IsValueType}
+use Rattle.ir_meaning.specs.Typed.{types, result_types, IsValueType, IsOperand}
+use Rattle.fast_isel.specs.Operations.{IsSlotOperand}
 use Rattle.ir_meaning.proofs.Numbering.{number-type}
 
 abbrev one-if : Inst → ℕ
@@ -38,6 +41,28 @@ number-inside function block place inst e h =
     let many = types-many (instructions function.blocks) in
     let all = length-append function.params (result_types (instructions function.blocks)) in
     omega (arith, within, many, all)
+
+pub width-small : (ty : Ty) → IsValueType ty → width ty ≤ 64
+width-small Void h = absurd h
+width-small (Int w) h = h.1
+width-small Ptr h = omega arith
+
+pub width-some : (ty : Ty) → IsValueType ty → 1 ≤ width ty
+width-some Void h = absurd h
+width-some (Int w) h = h.0
+width-some Ptr h = omega arith
+
+-- an operand of a type is one that can be loaded
+pub operand-inside : (function : Function) (ty : Ty) (o : Operand) → width ty ≤ 64 → IsOperand (types function) ty o → IsSlotOperand (value_count function) o
+operand-inside function ty (Local i) small h =
+    let within = slice_get_within (types function) i ty h in
+    let many = types-many (instructions function.blocks) in
+    let all = length-append function.params (result_types (instructions function.blocks)) in
+    omega (arith, within, many, all)
+operand-inside function ty (Num k) small h = let wide : 2 ^ width ty ≤ 2 ^ 64 = pow_mono small in omega (arith, wide, h)
+operand-inside function ty Null small h = tt
+operand-inside function ty (PlaceOf global offset) small h = tt
+operand-inside function ty Poison small h = tt
 
 take-more : (insts : List Inst) (place : ℕ) (inst : Inst) → slice_get insts place ≡ Some inst → has_result inst ≡ true → results (take (place + 1) insts) ≡ results (take place insts) + 1
 take-more insts place inst e h = ap (λ (k : ℕ). results (take k insts)) (let z : place + 1 ≡ suc place = omega arith in z) ∙ more insts place e

@@ -19,12 +19,12 @@ use Rattle.ir_core.specs.declared.program.Function.{Function}
 use Rattle.ir_core.specs.declared.program.Module.{Module}
 use Rattle.ir_core.specs.Program.{Program}
 use Rattle.ir_core.specs.Units.{frame, results, instructions, has_result}
-use Rattle.ir_core.specs.Small.{are_words, is_plain, is_small_operand, are_small_arguments, is_small_op, is_small_function, are_small_functions, IsSmallModule, IsSmallProgram}
+use Rattle.ir_core.specs.Small.{are_words, is_plain, is_small_operand, are_small_arguments, is_small_op, is_small_function, are_small_functions, IsSmallModule}
 use Rattle.ir_core.proofs.Smalls.{small-words, small-binary, small-argument, AreBefore, returning, Returning, returns-last, SmallFunction, small-function, small-module}
 use Rattle.rv_encode.specs.Spelling.{word_of}
 use Rattle.ir_meaning.specs.Step.{function_at, insts_of, insts_at}
 use Rattle.ir_meaning.specs.Meaning.{meaning, of_function}
-use Rattle.ir_meaning.proofs.SmallTyped.{small-typed}
+use Rattle.ir_meaning.specs.Typed.{IsTyped}
 use Rattle.rv_core.specs.declared.instr.Instr.{Instr}
 use Rattle.rv_play.specs.Good.{Good}
 use Rattle.fast_isel.specs.Small.{IsPlain, IsSmallOperand, AreSmallArgs, IsSmallOp, AreSmall, AreWords, IsSmall}
@@ -55,13 +55,13 @@ operand-is n k Null le h = absurd (let bad : ⊥ = cc in bad)
 operand-is n k (Place global offset) le h = absurd (let bad : ⊥ = cc in bad)
 operand-is n k Poison le h = absurd (let bad : ⊥ = cc in bad)
 
-arguments-are : (n k : ℕ) (arguments : List (Ty × Operand)) → k ≤ n → are_small_arguments k arguments ≡ true → AreSmallArgs n arguments
+pub arguments-are : (n k : ℕ) (arguments : List (Ty × Operand)) → k ≤ n → are_small_arguments k arguments ≡ true → AreSmallArgs n arguments
 arguments-are n k [] le h = tt
 arguments-are n k (argument ∷ arguments) le h =
     let parts = small-argument k argument arguments h in
     (parts.0, operand-is n k argument.1 le parts.1, arguments-are n k arguments le parts.2)
 
-plain-is : (op : BinOp) → is_plain op ≡ true → IsPlain op
+pub plain-is : (op : BinOp) → is_plain op ≡ true → IsPlain op
 plain-is Add h = tt
 plain-is Sub h = tt
 plain-is Mul h = tt
@@ -177,26 +177,26 @@ module _ (module_ : Module) (m : IsSmallModule module_) (function : Function) (p
 
 -- ---- the words are good
 
-quick-good : (program : Program) (symbol : ℕ) (function : Function) → IsSmallProgram program → function_at program symbol ≡ Some function
+quick-good : (program : Program) (symbol : ℕ) (function : Function) → IsSmallModule program.module_ → IsTyped program → function_at program symbol ≡ Some function
     → Good (meaning program) symbol (map word_of (quick_code symbol function))
-quick-good program symbol function small there =
-    let m = small-module program.module_ small.small in
+quick-good program symbol function small typed there =
+    let m = small-module program.module_ small in
     let passes = passes-at program.module_ program.module_.functions symbol function m.functions there in
-    let one = is-small program.module_ small.small function passes in
-    subst (λ (code : List Instr). Good (meaning program) symbol (map word_of code)) (sym (code-is program.module_ small.small function passes symbol))
-    (small-is-good program symbol function one (small-typed program small) there)
+    let one = is-small program.module_ small function passes in
+    subst (λ (code : List Instr). Good (meaning program) symbol (map word_of code)) (sym (code-is program.module_ small function passes symbol))
+    (small-is-good program symbol function one typed there)
 
 -- what is read at a symbol is the program's function
-pub words-at : (program : Program) (symbol : ℕ) (function : Function) → IsSmallProgram program → symbol < length program.module_.functions
+pub words-at : (program : Program) (symbol : ℕ) (function : Function) → IsSmallModule program.module_ → IsTyped program → symbol < length program.module_.functions
     → function ≡ get_or program.module_.functions symbol function
     → (is_small_function program.module_ function ≡ true) × (map word_of (quick_code symbol function) ≡ quick_words program symbol) × Good (meaning program) symbol (map word_of (quick_code symbol function))
-words-at program symbol function small lt e =
+words-at program symbol function small typed lt e =
     let there = slice_get_read program.module_.functions (length program.module_.functions) symbol function refl lt e in
-    let m = small-module program.module_ small.small in (
+    let m = small-module program.module_ small in (
       passes-at program.module_ program.module_.functions symbol function m.functions there,
       ap (λ (o : Option Function). of_function [] (λ (f : Function). map word_of (quick_code symbol f)) o) (sym there),
-      quick-good program symbol function small there,
+      quick-good program symbol function small typed there,
     )
 
-pub few-functions : (program : Program) → IsSmallProgram program → length program.module_.functions ≤ 1000
-few-functions program small = (small-module program.module_ small.small).few
+pub few-functions : (program : Program) → IsSmallModule program.module_ → length program.module_.functions ≤ 1000
+few-functions program small = (small-module program.module_ small).few

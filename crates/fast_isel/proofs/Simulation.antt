@@ -1,16 +1,17 @@
 -- Code that goes step by step as a play does refines it, and ends only where it ends. A compiler shows what its code does for
 -- one step of the play (`Advances`), from any state at which the code stands for it; the rest is proved here.
-use Rattle.std.proofs.Common.{◌≡◌, ◌≢◌, refl, sym, ap, subst, ◌∙◌, ℕ, zero, suc, ◌+◌, ◌-◌, ◌*◌, ◌<◌, ◌≤◌, ◌⊎◌, inl, inr, List, [], ◌∷◌, ◌++◌, Bool, true, false, cond, arith}
+use Rattle.std.proofs.Common.{◌≡◌, ◌≢◌, refl, sym, ap, subst, ◌∙◌, ℕ, zero, suc, ◌+◌, ◌-◌, ◌*◌, ◌<◌, ◌≤◌, ◌⊎◌, inl, inr, List, [], ◌∷◌, ◌++◌, length, Bool, true, false, cond, arith}
 use Rattle.std.specs.Prelude.{nat_lt}
 use Rattle.std.proofs.lemmas.Bool.{ltb-false, le-ltb, cases_lt}
 use Rattle.ir_meaning.specs.declared.activation.Activation.{Activation}
 use Rattle.ir_meaning.specs.declared.calls.Reply.{Reply}
 use Rattle.ir_meaning.specs.Value.{Value}
 use Rattle.ir_meaning.specs.Memory.{Memory}
-use Rattle.ir_meaning.specs.Step.{Program, Does, Goes, Calls, Returns, Overflows, Breaks, Entry, Opens, TooDeep, NoFunction, step, answered, entry, entry_units, walker}
+use Rattle.ir_core.specs.declared.program.Function.{Function}
+use Rattle.ir_meaning.specs.Step.{function_at, Program, Does, Goes, Calls, Returns, Overflows, Breaks, Entry, Opens, TooDeep, NoFunction, step, answered, entry, entry_units, walker}
 use Rattle.ir_meaning.specs.Play.{PlayEnd, NotEnded, play_on, play_after, play_entry}
 use Rattle.ir_meaning.specs.Plays.{Meaning, Invocation, play_of}
-use Rattle.ir_meaning.specs.Meaning.{meaning}
+use Rattle.ir_meaning.specs.Meaning.{meaning, of_function}
 use Rattle.ir_meaning.specs.Ranges.{IsReply}
 use Rattle.ir_meaning.proofs.Steps.{step-costs}
 use Rattle.ir_meaning.proofs.Plays.{paid, unpaid, playing, playing-paid, play-paid, play-unpaid}
@@ -60,11 +61,15 @@ module _ (program : Program) (a : Invocation) (s : Machine) (place : Place) (At 
   abbrev Run : ℕ → Point → List CodeReply → CodeEnd
   Run = code_run m place
 
-  -- the code has come to the next state
-  pub record Onward (units : ℕ) (next : Activation) (after : Memory) (p : Point) : Type 0 where
+  -- how many blocks stand from that of a state on
+  abbrev pub blocks_left : Activation → ℕ
+  blocks_left now = of_function 0 (λ (f : Function). length f.blocks) (function_at program now.symbol) - now.block
+
+  -- the code has come to the next state, by some instruction, or by falling through to a block behind
+  pub record Onward (units : ℕ) (now next : Activation) (after : Memory) (p : Point) : Type 0 where
     pub count : ℕ
     pub point : Point
-    pub some : 1 ≤ count
+    pub moves : (1 ≤ count) ⊎ (blocks_left next < blocks_left now)
     pub few : count ≤ 256 * units
     pub run : Leads m place count p point
     pub at : At next after point
@@ -96,7 +101,7 @@ module _ (program : Program) (a : Invocation) (s : Machine) (place : Place) (At 
 
   -- what the code does where the play does this, for so many units
   abbrev pub Advances : ℕ → Activation → Memory → Point → Does → Type 0
-  Advances units now here p (Goes next after) = Onward units next after p
+  Advances units now here p (Goes next after) = Onward units now next after p
   Advances units now here p (Calls g given) = Asked units now here p g given
   Advances units now here p (Returns value after) = Stopped units p code.Returns (AtReturn m a s value after)
   Advances units now here p Overflows = Stopped units p code.Overflows (λ q. q.counted ≡ a.symbol ∷ [])
@@ -176,10 +181,11 @@ module _ (program : Program) (a : Invocation) (s : Machine) (place : Place) (At 
     abbrev Ended : List Reply → Activation → Memory → Type 0
     Ended replies now here = (t : ℕ) × (playing (walker program) t replies now here ≢ NotEnded)
 
-    abbrev EndsToo : ℕ → Type 0
-    EndsToo bound =
+    -- within so many steps, with so many blocks from the state's on
+    abbrev EndsToo : ℕ → ℕ → Type 0
+    EndsToo bound left =
         (n spent : ℕ) (before replies : List Reply) (answers : List CodeReply) (now : Activation) (here : Memory) (p : Point)
-        → n ≤ bound → Arrives program a spent before now here → At now here p → AreReplies m a before replies answers → (IsRunning (Run n p answers) → ⊥) → Ended replies now here
+        → n ≤ bound → blocks_left now ≤ left → Arrives program a spent before now here → At now here p → AreReplies m a before replies answers → (IsRunning (Run n p answers) → ⊥) → Ended replies now here
 
     -- a step that is paid for
     one-more : (replies : List Reply) (now : Activation) (here : Memory) (does : Does) (t : ℕ) → (step program now here).does ≡ does
@@ -194,7 +200,7 @@ module _ (program : Program) (a : Invocation) (s : Machine) (place : Place) (At 
         → play_after (walker program) (playing (walker program)) t replies now here does ≢ NotEnded → Ended replies now here
     ended-by replies now here does t d h = ((step program now here).units + t, λ e. h (sym (one-more replies now here does t d) ∙ e))
 
-    ends-answer : (bound : ℕ) → EndsToo bound → (n spent : ℕ) (before replies : List Reply) (answers : List CodeReply) (now : Activation) (here : Memory) (p : Point) (g : ℕ) (given : List Value)
+    ends-answer : (bound : ℕ) → ((left : ℕ) → EndsToo bound left) → (n spent : ℕ) (before replies : List Reply) (answers : List CodeReply) (now : Activation) (here : Memory) (p : Point) (g : ℕ) (given : List Value)
         → Arrives program a spent before now here → AreReplies m a before replies answers → (step program now here).does ≡ Calls g given → (o : Asked (step program now here).units now here p g given)
         → n ≤ suc bound → o.count ≤ n → (IsRunning (Run n p answers) → ⊥) → Ended replies now here
     ends-answer bound ih n spent before [] [] now here p g given at rs d o lt le over = ended-by [] now here (Calls g given) 0 d (λ e. cc)
@@ -207,7 +213,7 @@ module _ (program : Program) (a : Invocation) (s : Machine) (place : Place) (At 
         let some = o.some in
         let left : Run n p (c ∷ cs) ≡ Run (n - o.count) (resume o.point c) cs = ap (λ (j : ℕ). Run j p (c ∷ cs)) (let e : n ≡ o.count + (n - o.count) = omega arith in e) ∙ o.run (n - o.count) (c ∷ cs) in
         let over' : IsRunning (Run (n - o.count) (resume o.point c) cs) → ⊥ = λ on. over (subst IsRunning (sym left) on) in
-        behind b (cases_lt (n - o.count) o.more) over' (ih (n - o.count - o.more) (spent + u) (before ++ r ∷ []) rest cs (answered program now r.value) r.memory b.point (omega (arith, some, lt)) (arrives_behind program a spent before now here g given r at d) b.at rs.3)
+        behind b (cases_lt (n - o.count) o.more) over' (ih (blocks_left (answered program now r.value)) (n - o.count - o.more) (spent + u) (before ++ r ∷ []) rest cs (answered program now r.value) r.memory b.point (omega (arith, some, lt)) (omega arith) (arrives_behind program a spent before now here g given r at d) b.at rs.3)
       where
         behind : (b : Resumed o.more now r (resume o.point c)) → (n - o.count < o.more) ⊎ (o.more ≤ n - o.count) → (IsRunning (Run (n - o.count) (resume o.point c) cs) → ⊥)
             → ((IsRunning (Run (n - o.count - o.more) b.point cs) → ⊥) → Ended rest (answered program now r.value) r.memory) → Ended (r ∷ rest) now here
@@ -221,19 +227,27 @@ module _ (program : Program) (a : Invocation) (s : Machine) (place : Place) (At 
         → (c : CodeReply) (cs : List CodeReply) → IsRunning (Run n p (c ∷ cs))
     calls-late n replies answers now here p g given u o lt c cs = ran-before m place n (o.count + 0) p (c ∷ cs) (omega (arith, lt)) (subst IsRunning (sym (o.run 0 (c ∷ cs))) tt)
 
-    ends-does : (bound : ℕ) → EndsToo bound → (n spent : ℕ) (before replies : List Reply) (answers : List CodeReply) (now : Activation) (here : Memory) (p : Point)
-        → n ≤ suc bound → Arrives program a spent before now here → AreReplies m a before replies answers → (IsRunning (Run n p answers) → ⊥)
+    ends-does : (bound left : ℕ) → ((l : ℕ) → EndsToo bound l) → ((l : ℕ) → l < left → EndsToo (suc bound) l)
+        → (n spent : ℕ) (before replies : List Reply) (answers : List CodeReply) (now : Activation) (here : Memory) (p : Point)
+        → n ≤ suc bound → blocks_left now ≤ left → Arrives program a spent before now here → AreReplies m a before replies answers → (IsRunning (Run n p answers) → ⊥)
         → (does : Does) → (step program now here).does ≡ does → Advances (step program now here).units now here p does → Ended replies now here
-    ends-does bound ih n spent before replies answers now here p le at rs over (Goes next after) d o = by_count (cases_lt n o.count)
+    ends-does bound left ih same n spent before replies answers now here p le few at rs over (Goes next after) d o = by_count (cases_lt n o.count)
       where
         by_count : (n < o.count) ⊎ (o.count ≤ n) → Ended replies now here
         by_count (inl short) = absurd (over (leads-on m place n o.count p o.point answers (omega (arith, short)) o.run))
-        by_count (inr long) =
-            let some = o.some in
-            let t = ih (n - o.count) (spent + (step program now here).units) before replies answers next after o.point (omega (arith, some, le)) (arrives_next program a spent before now next here after at d) o.at rs
-            (λ on. over (subst IsRunning (sym (leads-left m place n o.count p o.point answers long o.run)) on)) in
-            ended-by replies now here (Goes next after) t.0 d t.1
-    ends-does bound ih n spent before replies answers now here p le at rs over (Calls g given) d o = by_replies replies answers rs over
+        by_count (inr long) = by_move o.moves
+          where
+            over' : IsRunning (Run (n - o.count) o.point answers) → ⊥
+            over' on = over (subst IsRunning (sym (leads-left m place n o.count p o.point answers long o.run)) on)
+
+            by_move : (1 ≤ o.count) ⊎ (blocks_left next < blocks_left now) → Ended replies now here
+            by_move (inl some) =
+                let t = ih (blocks_left next) (n - o.count) (spent + (step program now here).units) before replies answers next after o.point (omega (arith, some, le)) (omega arith) (arrives_next program a spent before now next here after at d) o.at rs over' in
+                ended-by replies now here (Goes next after) t.0 d t.1
+            by_move (inr fewer) =
+                let t = same (blocks_left next) (omega (arith, fewer, few)) (n - o.count) (spent + (step program now here).units) before replies answers next after o.point (omega (arith, le)) (omega arith) (arrives_next program a spent before now next here after at d) o.at rs over' in
+                ended-by replies now here (Goes next after) t.0 d t.1
+    ends-does bound left ih same n spent before replies answers now here p le few at rs over (Calls g given) d o = by_replies replies answers rs over
       where
         by_replies : (replies : List Reply) (answers : List CodeReply) → AreReplies m a before replies answers → (IsRunning (Run n p answers) → ⊥) → Ended replies now here
         by_replies [] [] rs over = ended-by [] now here (Calls g given) 0 d (λ e. cc)
@@ -244,15 +258,24 @@ module _ (program : Program) (a : Invocation) (s : Machine) (place : Place) (At 
             by_count : (n < o.count) ⊎ (o.count ≤ n) → Ended (r ∷ rest) now here
             by_count (inl short) = absurd (over (calls-late n (r ∷ rest) (c ∷ cs) now here p g given (step program now here).units o short c cs))
             by_count (inr long) = ends-answer bound ih n spent before (r ∷ rest) (c ∷ cs) now here p g given at rs d o le long over
-    ends-does bound ih n spent before replies answers now here p le at rs over (Returns value after) d o = ended-by replies now here (Returns value after) 0 d (λ e. cc)
-    ends-does bound ih n spent before replies answers now here p le at rs over Overflows d o = ended-by replies now here Overflows 0 d (λ e. cc)
-    ends-does bound ih n spent before replies answers now here p le at rs over Breaks d o = ended-by replies now here Breaks 0 d (λ e. cc)
+    ends-does bound left ih same n spent before replies answers now here p le few at rs over (Returns value after) d o = ended-by replies now here (Returns value after) 0 d (λ e. cc)
+    ends-does bound left ih same n spent before replies answers now here p le few at rs over Overflows d o = ended-by replies now here Overflows 0 d (λ e. cc)
+    ends-does bound left ih same n spent before replies answers now here p le few at rs over Breaks d o = ended-by replies now here Breaks 0 d (λ e. cc)
 
-    pub ends-too : (bound : ℕ) → EndsToo bound
-    ends-too zero n spent before replies answers now here p le at held rs over =
+    ends-left : (bound : ℕ) → ((l : ℕ) → EndsToo bound l) → (left : ℕ) → EndsToo (suc bound) left
+    ends-left bound ih zero n spent before replies answers now here p le few at held rs over =
+        ends-does bound zero ih (λ l lt. absurd (let bad : ⊥ = omega (arith, lt) in bad)) n spent before replies answers now here p le few at rs over (step program now here).does refl (steps now here p held)
+    ends-left bound ih (suc left) n spent before replies answers now here p le few at held rs over =
+        ends-does bound (suc left) ih
+        (λ l lt k spent' before' replies' answers' now' here' p' le' few' at' held' rs' over'.
+        ends-left bound ih left k spent' before' replies' answers' now' here' p' le' (omega (arith, lt, few')) at' held' rs' over')
+        n spent before replies answers now here p le few at rs over (step program now here).does refl (steps now here p held)
+
+    pub ends-too : (bound left : ℕ) → EndsToo bound left
+    ends-too zero left n spent before replies answers now here p le few at held rs over =
         absurd (over (subst (λ (k : ℕ). IsRunning (Run k p answers)) (let e : 0 ≡ n = omega arith in e) tt))
-    ends-too (suc bound) n spent before replies answers now here p le at held rs over =
-        ends-does bound (ends-too bound) n spent before replies answers now here p le at rs over (step program now here).does refl (steps now here p held)
+    ends-too (suc bound) left n spent before replies answers now here p le few at held rs over =
+        ends-left bound (ends-too bound) left n spent before replies answers now here p le few at held rs over
 
     -- ---- from the entry
 
@@ -326,7 +349,7 @@ module _ (program : Program) (a : Invocation) (s : Machine) (place : Place) (At 
           by_count : (n - 3 < b.count) ⊎ (b.count ≤ n - 3) → (t : ℕ) × (play_of m a replies t ≢ NotEnded)
           by_count (inl short) = absurd (over (leads-on m place (n - 3) b.count (entered_at base s) b.point answers (omega (arith, short)) b.run))
           by_count (inr long) =
-              let t = ends-too (n - 3 - b.count) (n - 3 - b.count) 2 [] replies answers first a.memory b.point (omega arith) (entered program a first is) b.at rs
+              let t = ends-too (n - 3 - b.count) (blocks_left first) (n - 3 - b.count) 2 [] replies answers first a.memory b.point (omega arith) (omega arith) (entered program a first is) b.at rs
               (λ on. over (subst IsRunning (sym (leads-left m place (n - 3) b.count (entered_at base s) b.point answers long b.run)) on)) in
               (2 + t.0, λ e. t.1 (sym (opened first t.0 replies is) ∙ e))
       begun-ends n replies answers rs over TooDeep is b = (2, λ e. let bad = sym (entry-over replies TooDeep is) ∙ e in cc)

@@ -8,11 +8,11 @@ use Rattle.rv_play.specs.CodePlay.{Place, Point, CodeReply, code_run, instr_at}
 use Rattle.rv_play.specs.Good.{IsBase}
 use Rattle.fast_isel.specs.Blocks.{Item, Plain, Bind, Goto, Test}
 
--- one to three instructions lead from a point to an address, and change no register but t6
-pub record Hops (m : Meaning) (place : Place) (p : Point) (to : ℕ) : Type 0 where
+-- at least so many and at most three instructions lead from a point to an address, and change no register but t6
+pub record Hops (m : Meaning) (place : Place) (least : ℕ) (p : Point) (to : ℕ) : Type 0 where
   pub count : ℕ
   pub point : Point
-  pub some : 1 ≤ count
+  pub some : least ≤ count
   pub few : count ≤ 3
   pub run : (f : ℕ) (answers : List CodeReply) → code_run m place (count + f) p answers ≡ code_run m place f point answers
   pub there : point.machine.regs.pc ≡ to
@@ -28,11 +28,11 @@ StandsAs m place labels pc [] = Unit {0}
 StandsAs m place labels pc (Plain i ∷ items) = (code_base ≤ pc) × (pc + 4 ≤ code_limit) × (instr_at place pc ≡ Some i) × StandsAs m place labels (pc + 4) items
 StandsAs m place labels pc (Bind label ∷ items) = (labels label ≡ pc) × StandsAs m place labels pc items
 StandsAs m place labels pc (Goto label ∷ items) =
-    (next : ℕ) × ((p : Point) → p.machine.regs.pc ≡ pc → read p.machine.regs Sp ≢ place.sp → Hops m place p (labels label)) × StandsAs m place labels next items
+    (next : ℕ) × ((p : Point) → p.machine.regs.pc ≡ pc → read p.machine.regs Sp ≢ place.sp → Hops m place 1 p (labels label)) × StandsAs m place labels next items
 StandsAs m place labels pc (Test op a b label ∷ items) =
     (next : ℕ) × (next % 4 ≡ 0)
     × ((p : Point) → p.machine.regs.pc ≡ pc → read p.machine.regs Sp ≢ place.sp →
-    Hops m place p (if is_taken op (read p.machine.regs a) (read p.machine.regs b) then labels label else next))
+    Hops m place 1 p (if is_taken op (read p.machine.regs a) (read p.machine.regs b) then labels label else next))
     × StandsAs m place labels next items
 
 -- words stand as items wherever they stand, whoever enters them; labels are addresses of instructions

@@ -1,6 +1,6 @@
 -- Code for operators of a width up to 64. The operands stand in t0 and t1 as numbers below two to the width, and so does the
 -- result in t0.
-use Rattle.std.specs.Prelude.{◌≡◌, ◌≢◌, ℕ, ◌-◌, ◌==◌, if◌then◌else◌, pos, List, [], ◌∷◌, ◌++◌}
+use Rattle.std.specs.Prelude.{◌≡◌, ◌≢◌, ℕ, ◌-◌, ◌^◌, ◌==◌, nat_le, if◌then◌else◌, pos, List, [], ◌∷◌, ◌++◌}
 use Rattle.ir_core.specs.declared.code.BinOp.{BinOp}
 use Rattle.ir_core.specs.declared.code.BinOp.TheVariants as ir
 use Rattle.ir_core.specs.declared.code.Pred.{Pred}
@@ -8,23 +8,35 @@ use Rattle.ir_core.specs.declared.code.Pred.TheVariants as pred
 use Rattle.ir_core.specs.declared.code.CastOp.{CastOp}
 use Rattle.ir_core.specs.declared.code.CastOp.TheVariants as cast
 use Rattle.rv_core.specs.declared.reg.Reg.{Reg}
-use Rattle.rv_core.specs.declared.reg.Reg.TheVariants.{X0, T0, T1, T2}
-use Rattle.rv_core.specs.declared.instr.ImmOp.TheVariants.{Sltiu, Xori, Slli, Srli, Srai}
+use Rattle.rv_core.specs.declared.reg.Reg.TheVariants.{X0, T0, T1}
+use Rattle.rv_core.specs.declared.instr.ImmOp.TheVariants.{Sltiu, Xori, Andi, Slli, Srli, Srai, Addiw}
 use Rattle.rv_core.specs.declared.instr.RegOp.{RegOp}
-use Rattle.rv_core.specs.declared.instr.RegOp.TheVariants.{Add, Sub, Sll, Slt, Sltu, Xor, Srl, Sra, Or, And, Mul, Div, Divu, Rem, Remu}
+use Rattle.rv_core.specs.declared.instr.RegOp.TheVariants.{Add, Sub, Sll, Slt, Sltu, Xor, Srl, Sra, Or, And, Mul, Div, Divw, Divu, Rem, Remw, Remu, Sraw}
 use Rattle.rv_core.specs.declared.instr.Instr.{Instr}
 use Rattle.rv_core.specs.declared.instr.Instr.TheVariants.{Imm, Op as RegisterOp}
 use Rattle.rv_core.specs.Step.{Registers, after}
 
 -- cuts a register to a width, and extends its sign from a width
 abbrev pub zero_extended : ℕ → Reg → List Instr
-zero_extended w rd = if w == 64 then [] else Imm Slli rd rd (pos (64 - w)) ∷ Imm Srli rd rd (pos (64 - w)) ∷ []
+zero_extended w rd =
+    if w == 64 then []
+    else if nat_le w 11 then Imm Andi rd rd (pos (2 ^ w - 1)) ∷ []
+    else Imm Slli rd rd (pos (64 - w)) ∷ Imm Srli rd rd (pos (64 - w)) ∷ []
 
 abbrev pub sign_extended : ℕ → Reg → List Instr
-sign_extended w rd = if w == 64 then [] else Imm Slli rd rd (pos (64 - w)) ∷ Imm Srai rd rd (pos (64 - w)) ∷ []
+sign_extended w rd =
+    if w == 64 then []
+    else if w == 32 then Imm Addiw rd rd (pos 0) ∷ []
+    else Imm Slli rd rd (pos (64 - w)) ∷ Imm Srai rd rd (pos (64 - w)) ∷ []
 
 abbrev on_both : RegOp → List Instr
 on_both op = RegisterOp op T0 T0 T1 ∷ []
+
+-- an operation on both numbers with their signs; that on words reads them by itself
+abbrev on_signed : RegOp → RegOp → ℕ → List Instr
+on_signed op word w =
+    if w == 32 then on_both word ++ zero_extended w T0
+    else sign_extended w T0 ++ (sign_extended w T1 ++ (on_both op ++ zero_extended w T0))
 
 -- an operator of two numbers
 abbrev pub binary_code : BinOp → ℕ → List Instr
@@ -33,11 +45,11 @@ binary_code ir.Sub w = on_both Sub ++ zero_extended w T0
 binary_code ir.Mul w = on_both Mul ++ zero_extended w T0
 binary_code ir.UDiv w = on_both Divu
 binary_code ir.URem w = on_both Remu
-binary_code ir.SDiv w = sign_extended w T0 ++ (sign_extended w T1 ++ (on_both Div ++ zero_extended w T0))
-binary_code ir.SRem w = sign_extended w T0 ++ (sign_extended w T1 ++ (on_both Rem ++ zero_extended w T0))
+binary_code ir.SDiv w = on_signed Div Divw w
+binary_code ir.SRem w = on_signed Rem Remw w
 binary_code ir.Shl w = on_both Sll ++ zero_extended w T0
 binary_code ir.LShr w = on_both Srl
-binary_code ir.AShr w = sign_extended w T0 ++ (on_both Sra ++ zero_extended w T0)
+binary_code ir.AShr w = if w == 32 then on_both Sraw ++ zero_extended w T0 else sign_extended w T0 ++ (on_both Sra ++ zero_extended w T0)
 binary_code ir.And w = on_both And
 binary_code ir.Or w = on_both Or
 binary_code ir.Xor w = on_both Xor
@@ -79,12 +91,3 @@ after_all (i ∷ is) s = after_all is (after s i)
 -- From registers with a in t0 and b in t1, the code leaves c in t0 and d in t1, and changes no other register.
 abbrev pub Turns : List Instr → ℕ → ℕ → ℕ → ℕ → Type 0
 Turns code a b c d = (s : Registers) → s.x 5 ≡ a → s.x 6 ≡ b → ((after_all code s).x 5 ≡ c) × ((after_all code s).x 6 ≡ d) × ((j : ℕ) → j ≢ 5 → j ≢ 6 → (after_all code s).x j ≡ s.x j)
-
--- The chosen of two values: the condition, a bit, stands in t0, the values in t1 and t2. Only the choice is left in t0.
-abbrev pub select_code : List Instr
-select_code =
-    RegisterOp Sub T0 X0 T0
-    ∷ RegisterOp Xor T1 T1 T2
-    ∷ RegisterOp And T0 T0 T1
-    ∷ RegisterOp Xor T0 T0 T2
-    ∷ []

@@ -1,26 +1,27 @@
-// The quick compiler, and a maker of versions by it.
-ghost use Rattle.std.specs.Prelude.{◌≡◌, ◌<◌, ◌≤◌, true, false, length, map, IfOk, IfErr};
-ghost use Rattle.ir_core.specs.Small.{is_small_module, is_small_function};
+// The quick compiler.
+ghost use Rattle.std.specs.Prelude.{◌≡◌, ◌<◌, ◌≤◌, true, length, map, IfOk};
+ghost use Rattle.ir_core.specs.Small.{IsSmallModule, is_small_module, is_small_function};
 ghost use Rattle.rv_encode.specs.Spelling.{word_of};
 ghost use Rattle.ir_meaning.specs.Meaning.{meaning};
 ghost use Rattle.rv_play.specs.Good.{Good};
-ghost use Rattle.rv_play.specs.Versions.{IsVersion, Allows};
+ghost use Rattle.rv_play.specs.Versions.{IsVersion};
 ghost use Rattle.fast_isel.specs.Code.{quick_code};
 ghost use Rattle.fast_isel.specs.Quick.{quick_words};
 
 use crate::emit::{emit_block, emit_params, emit_prologue};
-use ir_core::checked::Checked;
 use ir_core::code::Block;
 use ir_core::program::{Function, Module};
 use ir_core::units::frame_of;
+use ir_verify::checked::Checked;
 use rj_num::NoMemory;
-use rv_play::version::{MakeRefusal, Maker, Version};
+use rv_play::version::Version;
 use sqlite_items::Items;
 use std::alloc::Global;
 
-/// A good version of a function, of level 1: each value stands in its slot on the control stack.
+/// A good version of a function of a small module, of level 1: each value stands in its slot on the control stack.
 pub fn quick(alloc: Global, module: &Checked, symbol: u32) -> Result<Version, NoMemory>
-    requires { symbol < length «module».now.module_.functions }
+    requires exists { symbol < length «module».now.module_.functions }
+    requires small { IsSmallModule «module».now.module_ }
     ensures version { IfOk result (λ version. IsVersion «module».now symbol 1 version) }
     ensures words { IfOk result (λ version. version.words ≡ quick_words «module».now symbol) }
 {
@@ -32,40 +33,10 @@ pub fn quick(alloc: Global, module: &Checked, symbol: u32) -> Result<Version, No
     })
 }
 
-/// Makes quick code under any level, and never refuses a function as crowded.
-#[derive(Clone, Copy, Debug, Drop)]
-pub struct QuickMaker;
-
-impl Maker for QuickMaker {
-    ghost may_crowd = { λ _ _ _ _. false };
-
-    fn make(
-        &mut self,
-        alloc: Global,
-        module: &Checked,
-        symbol: u32,
-        level: u8,
-    ) -> Result<Version, MakeRefusal>
-        requires exists { symbol < length «module».now.module_.functions }
-        requires level { (1 ≤ level) × (level ≤ 3) }
-        ensures version { IfOk result (λ version. IsVersion «module».now symbol level version) }
-        ensures words { IfOk result (λ version. version.words ≡ quick_words «module».now symbol) }
-        ensures refused { IfErr result (λ refusal. Allows false refusal) }
-    {
-        match words_of(alloc, module, symbol) {
-            Ok(words) => Ok(Version {
-                symbol,
-                level,
-                words,
-            }),
-            Err(NoMemory) => Err(MakeRefusal::NoMemory),
-        }
-    }
-}
-
 // The words of the quick code of a function.
 fn words_of(alloc: Global, module: &Checked, symbol: u32) -> Result<Items<u32>, NoMemory>
-    requires { symbol < length «module».now.module_.functions }
+    requires exists { symbol < length «module».now.module_.functions }
+    requires small { IsSmallModule «module».now.module_ }
     ensures value { IfOk result (λ words. words ≡ quick_words «module».now symbol) }
     ensures good { IfOk result (λ words. Good (meaning «module».now) symbol words) }
 {

@@ -1,10 +1,11 @@
 // The words of functions that are assembled by hand.
-use crate::quick::{QuickMaker, quick};
-use ir_core::checked::{Checked, check_small};
+use crate::quick::quick;
 use ir_core::code::{BinOp, Block, Flags, Inst, Op, Operand};
 use ir_core::program::{Function, Module};
+use ir_core::small::is_small;
 use ir_core::types::Ty;
-use rv_play::version::Maker;
+use ir_verify::checked::Checked;
+use ir_verify::verdict::verify;
 use sqlite_items::Items;
 use std::alloc::{AllocError, Global};
 
@@ -66,7 +67,10 @@ fn samples(alloc: Global) -> Result<Option<Checked>, AllocError> {
         globals: Items::new(alloc),
         functions: Items::from_vec(vec![in alloc; twice, less]?),
     };
-    Ok(check_small(module, 4096))
+    match verify(alloc, module, 4096) {
+        Ok(checked) => Ok(Some(checked)),
+        Err(_) => Ok(None),
+    }
 }
 
 const TWICE: [u32; 19] = [
@@ -116,17 +120,18 @@ const LESS: [u32; 15] = [
 fn words_of_small_functions(rt: HostRuntime) {
     let alloc = rt.alloc();
     let Ok(Some(module)) = samples(alloc) else {
-        panic!(rt; "the module is small");
+        panic!(rt; "the module verifies");
     };
+    assert!(rt; is_small(module.module()));
     assert!(rt; module.module().functions.len() == 2 && module.room() == 4096);
     let Ok(twice) = quick(alloc, &module, 0) else {
         panic!(rt; "there is memory");
     };
     assert!(rt; twice.words.as_slice() == TWICE.as_slice());
-    let Ok(less) = QuickMaker.make(alloc, &module, 1, 2) else {
+    let Ok(less) = quick(alloc, &module, 1) else {
         panic!(rt; "there is memory");
     };
-    assert!(rt; less.symbol == 1 && less.level == 2);
+    assert!(rt; less.symbol == 1 && less.level == 1);
     assert!(rt; less.words.len() == 24);
     assert!(rt; &less.words.as_slice()[9..] == LESS.as_slice());
 }

@@ -1,0 +1,4 @@
+pub mod Put
+pub mod Counts
+pub mod Joins
+pub mod Forms

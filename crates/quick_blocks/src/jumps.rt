@@ -1,0 +1,324 @@
+// The edges between blocks: next values of phis, jumps and labels.
+ghost use Rattle.std.specs.Prelude.{◌≡◌, ◌+◌, ◌*◌, ◌<◌, ◌≤◌, ◌^◌, [], ◌∷◌, length, Some, None, slice_get, OnOk, IfOk, true};
+ghost use Rattle.rv_core.specs.declared.reg.Reg.TheVariants.{T0};
+ghost use Rattle.ir_core.specs.Units.{values as value_count};
+ghost use Rattle.ir_meaning.specs.Step.{insts_at, number_at, on_edge, phis};
+ghost use Rattle.fast_isel.specs.Blocks.{cases_items, switch_items, Goto, Bind, Test, edge_code, edge_items, last_edge_items, branch_items, phis_code, block_label, edge_label};
+ghost use Rattle.fast_isel.specs.Assembly.{put};
+ghost use Rattle.quick_blocks.specs.Written.{put_code, AreFirsts};
+ghost use Rattle.quick_blocks.specs.Taken.{are_cases, is_operand, are_edge_operands, are_forms, is_taken};
+
+use crate::pieces::{put_next, put_phi, put_value};
+use ir_core::code::{Inst, Op, Operand};
+use ir_core::program::{Function, Global as Place};
+use rj_num::NoMemory;
+use rv_asm::asm::Asm;
+use rv_asm::item::Label;
+use rv_core::instr::BranchOp;
+use rv_core::reg::Reg;
+use std::alloc::Global;
+
+/// The instructions of a block.
+pub fn insts_in(function: &Function, block: u32) -> &[Inst]
+    requires { block < length function.now.blocks }
+    ensures { result.now ≡ insts_at function.now block }
+{
+    function.blocks.as_slice()[block as usize].insts.as_slice()
+}
+
+/// The number of the first value of a block.
+pub fn first_in(function: &Function, firsts: &[u32], block: u32) -> u32
+    requires firsts { AreFirsts function.now firsts.now }
+    requires block { block < length function.now.blocks }
+    ensures { result ≡ number_at function.now block 0 }
+{
+    firsts[block as usize]
+}
+
+// The operand that a phi has for an edge.
+fn operand_on(from: u32, pairs: &[(Operand, u32)], values: u32) -> Operand
+    requires { are_edge_operands values pairs.now ≡ true }
+    ensures value { result ≡ on_edge from pairs.now }
+    ensures small { is_operand values result ≡ true }
+{
+    for (operand, block) in pairs {
+        if *block == from {
+            return *operand;
+        }
+    }
+    Operand::Poison
+}
+
+// The next values of the phis at the head of a block, for the edge from another.
+fn put_nexts(
+    asm: &mut Asm,
+    alloc: Global,
+    globals: &[Place],
+    function: &Function,
+    from: u32,
+    to: u32,
+    insts: &[Inst],
+    first: u32,
+    values: u32,
+) -> Result<(), NoMemory>
+    requires insts { insts.now ≡ insts_at function.now to }
+    requires first { first ≡ number_at function.now to 0 }
+    requires values { values ≡ value_count function.now }
+    requires few { values ≤ 59 }
+    requires forms { are_forms values (length function.now.blocks) insts.now ≡ true }
+    ensures { OnOk result (asm.new ≡ put_code asm.old (edge_code globals.now function.now from to)) }
+{
+    let mut value = first;
+    for inst in insts {
+        match &inst.op {
+            Op::Phi(pairs) => {
+                let operand = operand_on(from, pairs.as_slice(), values);
+                put_next(asm, alloc, globals, value, operand, values)?;
+                value += 1;
+            }
+            _ => return Ok(()),
+        }
+    }
+    Ok(())
+}
+
+/// The next values of the phis at the head of a block become their values. How many there are.
+pub fn put_phis(
+    asm: &mut Asm,
+    alloc: Global,
+    function: &Function,
+    block: u32,
+    insts: &[Inst],
+    first: u32,
+    values: u32,
+) -> Result<u32, NoMemory>
+    requires insts { insts.now ≡ insts_at function.now block }
+    requires first { first ≡ number_at function.now block 0 }
+    requires values { values ≡ value_count function.now }
+    requires few { values ≤ 59 }
+    requires forms { are_forms values (length function.now.blocks) insts.now ≡ true }
+    ensures code { OnOk result (asm.new ≡ put_code asm.old (phis_code function.now block 0 (phis (insts_at function.now block)))) }
+    ensures heads { IfOk result (λ heads. heads ≡ length (phis (insts_at function.now block))) }
+    ensures number { IfOk result (λ heads. first + heads ≡ number_at function.now block heads) }
+{
+    let mut heads = 0;
+    for inst in insts {
+        match &inst.op {
+            Op::Phi(_) => {
+                put_phi(asm, alloc, first + heads)?;
+                heads += 1;
+            }
+            _ => return Ok(heads),
+        }
+    }
+    Ok(heads)
+}
+
+#[tactic(auto, unfolding(fast_isel::specs::Assembly::put))]
+fn put_goto(asm: &mut Asm, alloc: Global, label: u32) -> Result<(), NoMemory>
+    ensures { OnOk result (asm.new ≡ put asm.old (Goto label ∷ [])) }
+{
+    asm.jump(alloc, Label { number: label })
+}
+
+#[tactic(auto, unfolding(fast_isel::specs::Assembly::put))]
+fn put_test(
+    asm: &mut Asm,
+    alloc: Global,
+    op: BranchOp,
+    other: Reg,
+    label: u32,
+) -> Result<(), NoMemory>
+    ensures { OnOk result (asm.new ≡ put asm.old (Test op T0 other label ∷ [])) }
+{
+    asm.branch(alloc, op, Reg::T0, other, Label { number: label })
+}
+
+/// Puts a label, which stands nowhere yet.
+pub fn put_label(asm: &mut Asm, label: u32)
+    requires { slice_get asm.old.bound label ≡ Some None }
+    ensures { asm.new ≡ put asm.old (Bind label ∷ []) }
+{
+    asm.bind(Label { number: label });
+}
+
+// The next values of the phis of a block, for the edge from another.
+#[tactic(auto, using(crate::proofs::Forms::few_values, crate::proofs::Forms::block_forms))]
+fn put_edge(
+    asm: &mut Asm,
+    alloc: Global,
+    globals: &[Place],
+    function: &Function,
+    firsts: &[u32],
+    from: u32,
+    to: u32,
+    values: u32,
+) -> Result<(), NoMemory>
+    requires taken { is_taken function.now ≡ true }
+    requires firsts { AreFirsts function.now firsts.now }
+    requires to { to < length function.now.blocks }
+    requires values { values ≡ value_count function.now }
+    ensures { OnOk result (asm.new ≡ put_code asm.old (edge_code globals.now function.now from to)) }
+{
+    let first = first_in(function, firsts, to);
+    put_nexts(
+        asm,
+        alloc,
+        globals,
+        function,
+        from,
+        to,
+        insts_in(function, to),
+        first,
+        values,
+    )
+}
+
+// An edge in the midst of a block's code.
+#[tactic(auto, using(crate::proofs::Forms::few_values, crate::proofs::Forms::few_blocks))]
+fn put_goto_edge(
+    asm: &mut Asm,
+    alloc: Global,
+    globals: &[Place],
+    function: &Function,
+    firsts: &[u32],
+    from: u32,
+    to: u32,
+    values: u32,
+) -> Result<(), NoMemory>
+    requires taken { is_taken function.now ≡ true }
+    requires firsts { AreFirsts function.now firsts.now }
+    requires to { to < length function.now.blocks }
+    requires values { values ≡ value_count function.now }
+    ensures { OnOk result (asm.new ≡ put asm.old (edge_items globals.now function.now from to)) }
+{
+    put_edge(asm, alloc, globals, function, firsts, from, to, values)?;
+    put_goto(asm, alloc, 2 * to)?;
+    Ok(())
+}
+
+/// The edge at the end of a block: no jump leads to the block that comes next.
+#[tactic(auto, using(crate::proofs::Forms::few_values, crate::proofs::Forms::few_blocks))]
+pub fn put_last_edge(
+    asm: &mut Asm,
+    alloc: Global,
+    globals: &[Place],
+    function: &Function,
+    firsts: &[u32],
+    from: u32,
+    to: u32,
+    values: u32,
+) -> Result<(), NoMemory>
+    requires taken { is_taken function.now ≡ true }
+    requires firsts { AreFirsts function.now firsts.now }
+    requires from { from < length function.now.blocks }
+    requires to { to < length function.now.blocks }
+    requires values { values ≡ value_count function.now }
+    ensures { OnOk result (asm.new ≡ put asm.old (last_edge_items globals.now function.now from to)) }
+{
+    put_edge(asm, alloc, globals, function, firsts, from, to, values)?;
+    if to == from + 1 {
+        return Ok(());
+    }
+    put_goto(asm, alloc, 2 * to)?;
+    Ok(())
+}
+
+/// A branch, with the edge that is taken where the comparison fails, and the one where it holds.
+#[tactic(auto, using(crate::proofs::Forms::few_values, crate::proofs::Forms::few_blocks))]
+pub fn put_branch(
+    asm: &mut Asm,
+    alloc: Global,
+    globals: &[Place],
+    function: &Function,
+    firsts: &[u32],
+    block: u32,
+    op: BranchOp,
+    condition: Operand,
+    fails: u32,
+    holds: u32,
+    values: u32,
+) -> Result<(), NoMemory>
+    requires taken { is_taken function.now ≡ true }
+    requires firsts { AreFirsts function.now firsts.now }
+    requires block { block < length function.now.blocks }
+    requires condition { is_operand values condition ≡ true }
+    requires fails { fails < length function.now.blocks }
+    requires holds { holds < length function.now.blocks }
+    requires values { values ≡ value_count function.now }
+    requires free { slice_get asm.old.bound (edge_label block) ≡ Some None }
+    ensures { OnOk result (asm.new ≡ put asm.old (branch_items globals.now function.now block op condition fails holds)) }
+{
+    put_value(asm, alloc, globals, Reg::T0, condition, values)?;
+    put_test(asm, alloc, op, Reg::X0, 2 * block + 1)?;
+    put_goto_edge(asm, alloc, globals, function, firsts, block, fails, values)?;
+    put_label(asm, 2 * block + 1);
+    put_last_edge(asm, alloc, globals, function, firsts, block, holds, values)?;
+    Ok(())
+}
+
+// The test of a case, for a number in t0.
+fn put_case(
+    asm: &mut Asm,
+    alloc: Global,
+    globals: &[Place],
+    number: u128,
+    to: u32,
+) -> Result<(), NoMemory>
+    requires number { number < 2 ^ 64 }
+    requires to { to ≤ 16384 }
+    ensures { OnOk result (asm.new ≡ put asm.old (cases_items globals.now ((number, to) ∷ []))) }
+{
+    put_value(asm, alloc, globals, Reg::T1, Operand::Num(number), 0)?;
+    put_test(asm, alloc, BranchOp::Beq, Reg::T1, 2 * to)?;
+    Ok(())
+}
+
+// The tests of cases, for a number in t0.
+fn put_cases(
+    asm: &mut Asm,
+    alloc: Global,
+    globals: &[Place],
+    blocks: usize,
+    cases: &[(u128, u32)],
+) -> Result<(), NoMemory>
+    requires cases { are_cases blocks cases.now ≡ true }
+    requires few { blocks ≤ 16384 }
+    ensures { OnOk result (asm.new ≡ put asm.old (cases_items globals.now cases.now)) }
+{
+    for case in cases {
+        put_case(asm, alloc, globals, case.0, case.1)?;
+    }
+    Ok(())
+}
+
+/// A switch: the tests of its cases, and the edge to the block where no case holds.
+#[tactic(auto, using(crate::proofs::Forms::few_values, crate::proofs::Forms::few_blocks))]
+pub fn put_switch(
+    asm: &mut Asm,
+    alloc: Global,
+    globals: &[Place],
+    function: &Function,
+    firsts: &[u32],
+    block: u32,
+    value: Operand,
+    otherwise: u32,
+    cases: &[(u128, u32)],
+    values: u32,
+) -> Result<(), NoMemory>
+    requires taken { is_taken function.now ≡ true }
+    requires firsts { AreFirsts function.now firsts.now }
+    requires block { block < length function.now.blocks }
+    requires value { is_operand values value ≡ true }
+    requires otherwise { otherwise < length function.now.blocks }
+    requires cases { are_cases (length function.now.blocks) cases.now ≡ true }
+    requires values { values ≡ value_count function.now }
+    ensures { OnOk result (asm.new ≡ put asm.old (switch_items globals.now function.now block value otherwise cases.now)) }
+{
+    put_value(asm, alloc, globals, Reg::T0, value, values)?;
+    put_cases(asm, alloc, globals, function.blocks.len(), cases)?;
+    put_last_edge(
+        asm, alloc, globals, function, firsts, block, otherwise, values,
+    )?;
+    Ok(())
+}
