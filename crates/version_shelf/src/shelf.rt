@@ -40,6 +40,7 @@ impl Shelf {
         requires { words ≤ 4194304 }
         ensures none { IfOk result (λ s. (s.versions.items ≡ []) × (s.current.items ≡ replicate functions 0)) }
         ensures space { IfOk result (λ s. (s.space.size ≡ words) × (count_free s.space.ranges ≡ words)) }
+        ensures free { IfOk result (λ s. (w : ℕ) → w < words → IsFree s.space.ranges w) }
     {
         let current = vec![in alloc; 0u32; functions as usize].map_err(|_| NoMemory)?;
         let space = CodeSpace::new(alloc, words)?;

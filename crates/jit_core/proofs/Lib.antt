@@ -1,0 +1,11 @@
+pub mod OneStep
+pub mod Kept
+pub mod Turning
+pub mod Stands
+pub mod Stepping
+pub mod Readying
+pub mod Seating
+pub mod Laid
+pub mod Standing
+pub mod Opening
+pub mod Founding

@@ -1,0 +1,14 @@
+pub mod Words
+pub mod Loads
+pub mod Stores
+pub mod Turns
+pub mod Opens
+pub mod Published
+pub mod Joins
+pub mod Reclaims
+pub mod Keeps
+pub mod Settles
+pub mod Rests
+pub mod Lays
+pub mod Seated
+pub mod Plans

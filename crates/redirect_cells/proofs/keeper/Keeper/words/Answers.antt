@@ -1,0 +1,5 @@
+use Rattle.std.proofs.Common.{refl}
+use Rattle.redirect_cells.proofs.keeper.Keeper.words.Goals as goal
+
+pub returns : goal.returns
+returns c = (c.linked.result, c.linked.ensures, refl)

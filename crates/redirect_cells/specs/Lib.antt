@@ -1,0 +1,5 @@
+pub mod Kept
+pub mod Keeping
+pub mod Plans
+pub mod Gathered
+pub mod Opened
