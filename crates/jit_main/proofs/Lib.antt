@@ -1,12 +1,6 @@
-pub mod Lists
-pub mod Refused
-pub mod Exact
-pub mod Repeat
-pub mod Parts
-pub mod ModuleText
-pub mod CallsText
 pub mod Made
-pub mod Listed
 pub mod Readying
-pub mod Front
+pub mod Fronts
 pub mod Stopping
+pub mod Ending
+pub mod Listing

@@ -1,5 +1,5 @@
 -- One version more.
-use Rattle.std.proofs.Common.{◌≡◌, ℕ, suc, ap, take, drop, get_or, ◌+◌, ◌<◌, ◌≤◌, List, [], ◌∷◌, ◌++◌, length, refl, sym, subst, ◌∙◌, arith, add-zero, length-append}
+use Rattle.std.proofs.Common.{◌≡◌, ℕ, suc, ap, take, drop, get_or, ◌+◌, ◌<◌, ◌≤◌, List, [], ◌∷◌, ◌++◌, length, refl, sym, subst, ◌∙◌, arith, length-append}
 use Rattle.std.proofs.lemmas.List.Sums.{sum_by-cons}
 use Rattle.std.proofs.Math.Seq.{drop-cons, take-suc}
 use Rattle.ir_core.specs.Program.{Program}
@@ -8,20 +8,20 @@ use Rattle.ir_meaning.specs.Meaning.{meaning}
 use Rattle.rv_play.specs.declared.version.Version.{Version}
 use Rattle.rv_play.specs.Good.{Good}
 use Rattle.rv_play.specs.Versions.{IsVersion}
-use Rattle.fast_isel.specs.Quick.{quick_words}
+use Rattle.quick_blocks.specs.Written.{AreQuickWords}
 use Rattle.hart.specs.Fixed.{AllGood, AreInOrder, AreVersions, code_of}
 use Rattle.ir_core.specs.declared.program.Function.{Function}
 use Rattle.ir_meaning.specs.declared.calls.Ended.{Ended}
 use Rattle.ir_meaning.specs.declared.calls.ListedCall.{ListedCall}
 use Rattle.ir_meaning.specs.Right.{Right}
-use Rattle.jit_main.specs.CallsText.{IsListed, AllListed}
+use Rattle.jit_calls.specs.Listed.{IsListed, AllListed}
 use Rattle.jit_main.specs.Run.{quick_from, AreMade, AllRight, words_needed}
 
 quick-push : (program : Program) (symbol at : ℕ) (versions : List Version) (v : Version) → quick_from program symbol versions → at ≡ symbol + length versions
-    → v.words ≡ quick_words program at → quick_from program symbol (versions ++ v ∷ [])
+    → AreQuickWords program at v.words → quick_from program symbol (versions ++ v ∷ [])
 quick-push program symbol at [] v made e words =
     let here : at ≡ symbol = omega arith in
-    (rw here at words, tt)
+    (subst (λ (k : ℕ). AreQuickWords program k v.words) here words, tt)
 quick-push program symbol at (first ∷ versions) v made e words = (made.0, quick-push program (symbol + 1) at versions v made.1 (omega arith) words)
 
 good-push : (m : Meaning) (versions : List Version) (v : Version) → AllGood m versions → Good m v.symbol v.words → AllGood m (versions ++ v ∷ [])
@@ -33,7 +33,7 @@ ordered-push symbol at [] v all e of = (omega arith, tt)
 ordered-push symbol at (first ∷ versions) v all e of = (all.0, ordered-push (symbol + 1) at versions v all.1 (omega arith) of)
 
 pub one_more : (program : Program) (at : ℕ) (versions : List Version) (v : Version) → AreMade program versions → length versions ≡ at → IsVersion program at 1 v
-    → v.words ≡ quick_words program at → AreMade program (versions ++ v ∷ [])
+    → AreQuickWords program at v.words → AreMade program (versions ++ v ∷ [])
 one_more program at versions v made count is words = record {
   quick = quick-push program 0 at versions v made.quick (omega arith) words;
   good = good-push (meaning program) versions v made.good (subst (λ (symbol : ℕ). Good (meaning program) symbol v.words) (sym is.of_symbol) is.good);

@@ -1,10 +1,6 @@
-pub mod Form
-pub mod Names
-pub mod Numbers
-pub mod ModuleText
-pub mod CallsText
-pub mod Answers
-pub mod Lines
-pub mod Reads
+pub mod Commands
 pub mod Run
+pub mod Fronts
 pub mod Ready
+pub mod Evals
+pub mod Ends

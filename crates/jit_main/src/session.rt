@@ -1,19 +1,19 @@
-ghost use Rattle.std.specs.Prelude.{◌≡◌, ◌≤◌, List, length, IfOk, IfErr};
-ghost use Rattle.ir_core.specs.Small.{IsSmallProgram};
+ghost use Rattle.std.specs.Prelude.{◌≡◌, ◌≤◌, List, length, IfOk};
+ghost use Rattle.ir_meaning.specs.Typed.{IsTyped};
 ghost use Rattle.ir_meaning.specs.Right.{Right};
-ghost use Rattle.jit_main.specs.CallsText.{IsListed, AllListed};
-ghost use Rattle.jit_main.specs.Ready.{IsReady, IsEmptyImage};
-ghost use Rattle.jit_main.specs.Run.{AreMade, AllRight, words_needed};
+ghost use Rattle.jit_calls.specs.Listed.{IsListed, AllListed};
+ghost use Rattle.jit_main.specs.Ready.{IsReady, IsImage};
+ghost use Rattle.jit_main.specs.Run.{AreMade, AllRight, IsImageFor, words_needed};
 
-use crate::form::Refusal;
+use crate::memory::OutOfMemory;
 use hart::{FixedFabric, Hart, Image};
-use ir_core::checked::Checked;
+use ir_data::image::Image as FirstImage;
 use ir_meaning::calls::{Ended, ListedCall};
+use ir_verify::checked::Checked;
 use rv_play::version::Version;
-use sqlite_items::Items;
 use std::alloc::Global;
 
-/// Runs a call of a small module.
+/// Runs a call of a module.
 fn answer(
     hart: &mut Hart,
     fabric: &mut FixedFabric,
@@ -22,7 +22,7 @@ fn answer(
     call: &ListedCall,
 ) -> Ended
     requires ready { IsReady checked.now hart.old fabric.old }
-    requires image { IsEmptyImage image.now }
+    requires image { IsImage checked.now image.now }
     requires call { IsListed checked.now.module_.functions call.now }
     ensures ready { IsReady checked.now hart.new fabric.new }
     ensures right { Right checked.now call.now result }
@@ -30,7 +30,7 @@ fn answer(
     hart.run_call(fabric, image, call)
 }
 
-/// Runs the calls of a small module, one after another.
+/// Runs the calls of a module, one after another.
 fn answers_on(
     alloc: Global,
     hart: &mut Hart,
@@ -38,12 +38,11 @@ fn answers_on(
     image: &Image,
     checked: &Checked,
     calls: &[ListedCall],
-) -> Result<Vec<Ended>, Refusal>
+) -> Result<Vec<Ended>, OutOfMemory>
     requires ready { IsReady checked.now hart.old fabric.old }
-    requires image { IsEmptyImage image.now }
+    requires image { IsImage checked.now image.now }
     requires calls { AllListed checked.now.module_.functions calls.now }
     ensures right { IfOk result (λ ends. AllRight checked.now calls.now ends.items) }
-    ensures memory { IfErr result (λ refusal. refusal ≡ Refusal.NoMemory) }
 {
     let mut ends = Vec::new(alloc);
     for call in calls {
@@ -53,27 +52,28 @@ fn answers_on(
     Ok(ends)
 }
 
-/// Answers the calls of a small module over good versions of its functions.
+/// Answers the calls of a module over good versions of its functions.
 pub fn session(
     alloc: Global,
     checked: &Checked,
+    first: FirstImage,
     versions: Vec<Version>,
     calls: &[ListedCall],
-) -> Result<Vec<Ended>, Refusal>
-    requires small { IsSmallProgram checked.now }
+) -> Result<Vec<Ended>, OutOfMemory>
+    requires typed { IsTyped checked.now }
+    requires image { IsImageFor checked.now first }
     requires made { AreMade checked.now versions.items }
     requires count { length versions.items ≡ length checked.now.module_.functions }
     requires fits { words_needed versions.items ≤ 4194304 }
     requires calls { AllListed checked.now.module_.functions calls.now }
     ensures right { IfOk result (λ ends. AllRight checked.now calls.now ends.items) }
-    ensures memory { IfErr result (λ refusal. refusal ≡ Refusal.NoMemory) }
 {
     let mut hart = Hart::new(alloc, checked.room())?;
     hart.widths(alloc, checked)?;
     let mut fabric = FixedFabric::new(alloc, versions)?;
     let image = Image {
-        bytes: Items::new(alloc),
-        top: 0x1000_0000,
+        bytes: first.bytes,
+        top: first.top,
     };
     answers_on(alloc, &mut hart, &mut fabric, &image, checked, calls)
 }

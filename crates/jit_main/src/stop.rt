@@ -1,21 +1,32 @@
+use ir_core::program::Module;
+use ir_reader::ReadRefusal;
+use ir_verify::refusal::VerifyRefusal;
+use jit_calls::CallsRefusal;
+
 /// Why the program stops before it writes its answers.
-#[derive(Clone, Copy, Debug)]
+#[derive(Debug, Drop)]
 pub enum Stop<'a> {
     /// The words are no command.
     Usage,
     /// A file of this name couldn't be read.
     CannotRead(&'a str),
-    /// The text isn't that of a small module.
-    ModuleForm,
+    /// The text isn't that of a module.
+    Unread(ReadRefusal),
+    /// The module doesn't pass a row of the verifier.
+    Unverified(Module, VerifyRefusal),
+    /// The globals take so many bytes, and the data memory has so many, which are fewer.
+    TooBig(u64, u64),
     /// The text isn't a list of calls of the module.
-    CallsForm,
+    Uncalled(CallsRefusal),
+    /// Not each function of the module is taken.
+    NotYet,
     /// The quick code takes so many code words, which are more than there are.
     NoRoom(u64),
     NoMemory,
 }
 
 impl Stop<'_> {
-    ghost use Rattle.jit_main.specs.Run.{status_of};
+    ghost use Rattle.jit_main.specs.Ends.{status_of};
     ghost use Rattle.std.specs.Prelude.{◌≡◌};
 
     /// The status that the program ends with.
@@ -25,7 +36,11 @@ impl Stop<'_> {
         match self {
             Stop::Usage => 3,
             Stop::CannotRead(_) => 4,
-            Stop::ModuleForm | Stop::CallsForm => 2,
+            Stop::Unread(_)
+            | Stop::Unverified(..)
+            | Stop::TooBig(..)
+            | Stop::Uncalled(_)
+            | Stop::NotYet => 2,
             Stop::NoRoom(_) => 7,
             Stop::NoMemory => 6,
         }

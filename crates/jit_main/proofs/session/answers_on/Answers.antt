@@ -1,4 +1,3 @@
-use Rattle.std.proofs.Common.{arith, take, drop}
 use Rattle.jit_main.proofs.Made.{one_right, next_listed}
 use Rattle.jit_main.proofs.session.answers_on.Goals as goal
 

@@ -1,5 +1,5 @@
 use Rattle.std.proofs.Common.{take, drop}
-use Rattle.jit_main.specs.CallsText.{AllListed}
+use Rattle.jit_calls.specs.Listed.{AllListed}
 use Rattle.jit_main.specs.Ready.{IsReady}
 use Rattle.jit_main.specs.Run.{AllRight}
 use Rattle.jit_main.proofs.session.answers_on.Given as goal

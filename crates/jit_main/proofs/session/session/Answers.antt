@@ -1,4 +1,5 @@
 use Rattle.jit_main.proofs.Made.{are_versions}
+use Rattle.jit_main.proofs.Readying.{is_image}
 use Rattle.jit_main.proofs.session.session.Goals as goal
 
 pub new-requires-2 : goal.new-requires-2
@@ -6,7 +7,7 @@ new-requires-2 c = are_versions c.args.checked.now c.args.versions.items c.requi
 
 pub answers_on-requires-clause-ready : goal.answers_on-requires-clause-ready
 answers_on-requires-clause-ready c = record {
-  small = c.requires.small;
+  typed = c.requires.typed;
   known = c.in_ok-widths.ensures.known;
   versions = c.args.versions.items;
   count = c.requires.count;
@@ -16,3 +17,6 @@ answers_on-requires-clause-ready c = record {
   code = c.in_ok-fabric.ensures.code;
   idle = c.in_ok-fabric.ensures.idle;
 }
+
+pub answers_on-requires-clause-image : goal.answers_on-requires-clause-image
+answers_on-requires-clause-image c = is_image c.args.checked.now c.args.first c.requires.image

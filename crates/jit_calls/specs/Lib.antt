@@ -1,0 +1,12 @@
+pub mod Form
+pub mod Reads
+pub mod Numbers
+pub mod Names
+pub mod Scopes
+pub mod Line
+pub mod Steps
+pub mod Lists
+pub mod Listing
+pub mod Answers
+pub mod Listed
+pub mod Reports

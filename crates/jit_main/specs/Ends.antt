@@ -1,0 +1,183 @@
+-- How the program ends: what it writes, why it stops, and the status of each.
+use Rattle.std.specs.Prelude.{◌≡◌, ℕ, ◌≤◌, Bool, true, false, List, ◌++◌, length, take, Option, Some, None, codes, ◌≢◌, ◌<◌, ◌↔◌, ◌⊎◌}
+use Rattle.std.specs.Fmt.{decimal}
+use Rattle.rj_io.specs.Faults.{Rose}
+use Rattle.rj_io.specs.Sinks.{Took}
+use Rattle.refusal_texts.specs.Texts.{unread_text, unverified_text, no_image_text, uncalled_text}
+use Rattle.jit_main.specs.declared.command.Command.{Command}
+use Rattle.jit_main.specs.declared.command.Command.TheVariants.{Run, Eval}
+use Rattle.jit_main.specs.declared.stop.Stop.{Stop}
+use Rattle.jit_main.specs.declared.stop.Stop.TheVariants.{Usage, CannotRead, Unread, Unverified, TooBig, Uncalled, NotYet, NoRoom, NoMemory}
+use Rattle.jit_main.specs.Commands.{Line, command_of, AreTexts, IsNamed}
+use Rattle.jit_main.specs.Run.{NoModule, NoPass, NoImage, NoCalls, NotTaken, NoCode, Ran}
+use Rattle.jit_main.specs.Evals.{Evaluated}
+
+-- why two texts have no answers under a command
+abbrev pub TextStop : Command → List ℕ → List ℕ → Stop → Type 0
+TextStop command module_text calls_text Usage = ⊥
+TextStop command module_text calls_text (CannotRead name) = ⊥
+TextStop command module_text calls_text (Unread refusal) = NoModule module_text refusal
+TextStop command module_text calls_text (Unverified module_ refusal) = NoPass module_text module_ refusal
+TextStop command module_text calls_text (TooBig bytes size) = NoImage module_text bytes size
+TextStop command module_text calls_text (Uncalled refusal) = NoCalls module_text calls_text refusal
+TextStop command module_text calls_text NotYet = (command ≡ Run) × NotTaken module_text calls_text
+TextStop command module_text calls_text (NoRoom needed) = (command ≡ Run) × NoCode module_text calls_text needed
+TextStop command module_text calls_text NoMemory = Unit {0}
+
+-- the text that a command writes for two texts, and whether a call in it is unanswered
+abbrev pub Writes : Command → List ℕ → List ℕ → List ℕ → Bool → Type 0
+Writes Run module_text calls_text text unanswered = Ran module_text calls_text text unanswered
+Writes Eval module_text calls_text text unanswered = Evaluated module_text calls_text text unanswered
+
+-- this is the text that a command writes for what its files have
+abbrev pub LineWrites : Line → (List ℕ → Option (List ℕ)) → List ℕ → Bool → Type 0
+LineWrites line told text unanswered = (module_text calls_text : List ℕ) × AreTexts told line module_text calls_text × Writes line.0 module_text calls_text text unanswered
+
+-- what a command's files have stops the program so
+abbrev pub LineStops : Line → (List ℕ → Option (List ℕ)) → Stop → Type 0
+LineStops line told stop = (module_text calls_text : List ℕ) × AreTexts told line module_text calls_text × TextStop line.0 module_text calls_text stop
+
+-- why a command stops before it writes: its line, the files, the counts of their faults before and after
+abbrev pub LineCause : Line → (List ℕ → Option (List ℕ)) → ℕ → ℕ → Stop → Type 0
+LineCause line told before now Usage = ⊥
+LineCause line told before now (CannotRead name) = IsNamed line name.now × Rose before now
+LineCause line told before now (Unread refusal) = LineStops line told (Unread refusal) × (now ≡ before)
+LineCause line told before now (Unverified module_ refusal) = LineStops line told (Unverified module_ refusal) × (now ≡ before)
+LineCause line told before now (TooBig bytes size) = LineStops line told (TooBig bytes size) × (now ≡ before)
+LineCause line told before now (Uncalled refusal) = LineStops line told (Uncalled refusal) × (now ≡ before)
+LineCause line told before now NotYet = LineStops line told NotYet × (now ≡ before)
+LineCause line told before now (NoRoom needed) = LineStops line told (NoRoom needed) × (now ≡ before)
+LineCause line told before now NoMemory = now ≡ before
+
+-- the same where the words may be no command
+abbrev pub WordsCause : Option Line → (List ℕ → Option (List ℕ)) → ℕ → ℕ → Stop → Type 0
+WordsCause None told before now Usage = now ≡ before
+WordsCause None told before now stop = ⊥
+WordsCause (Some line) told before now stop = LineCause line told before now stop
+
+-- the words are a command, and this is the text that it writes for what its files have
+abbrev pub Answers : List (List ℕ) → (List ℕ → Option (List ℕ)) → List ℕ → Bool → Type 0
+Answers words told text unanswered = (line : Line) × (command_of words ≡ Some line) × LineWrites line told text unanswered
+
+-- the words are a command, and what its files have stops the program so
+abbrev pub Stops : List (List ℕ) → (List ℕ → Option (List ℕ)) → Stop → Type 0
+Stops words told stop = (line : Line) × (command_of words ≡ Some line) × LineStops line told stop
+
+-- why the program stops before it writes its answers
+abbrev pub Cause : List (List ℕ) → (List ℕ → Option (List ℕ)) → ℕ → ℕ → Stop → Type 0
+Cause words told before now stop = WordsCause (command_of words) told before now stop
+
+-- a load that fails says which, and is counted
+abbrev pub LoadStop : List ℕ → ℕ → ℕ → Stop → Type 0
+LoadStop name before now (CannotRead other) = (other.now ≡ name) × Rose before now
+LoadStop name before now NoMemory = now ≡ before
+LoadStop name before now _ = ⊥
+
+abbrev pub status_of : Stop → ℕ
+status_of Usage = 3
+status_of (CannotRead name) = 4
+status_of (Unread refusal) = 2
+status_of (Unverified module_ refusal) = 2
+status_of NotYet = 2
+status_of (TooBig bytes size) = 2
+status_of (Uncalled refusal) = 2
+status_of (NoRoom needed) = 7
+status_of NoMemory = 6
+
+-- what the words name and the files have is refused: the module doesn't read or doesn't pass, has no image or isn't small, or the calls don't read
+abbrev pub TextRefused : List (List ℕ) → (List ℕ → Option (List ℕ)) → Type 0
+TextRefused words told = (stop : Stop) × (status_of stop ≡ 2) × Stops words told stop
+
+abbrev pub status_when : Bool → ℕ
+status_when true = 1
+status_when false = 0
+
+abbrev pub no_file_text : List ℕ → List ℕ
+no_file_text name = codes "reopt: cannot read " ++ (name ++ codes "\n")
+
+abbrev pub room_text : ℕ → List ℕ
+room_text needed = codes "reopt: code: needs " ++ decimal needed ++ codes " words, has 262144\n"
+
+abbrev pub text_of : Stop → List ℕ
+text_of Usage = codes "reopt: usage\n"
+text_of (CannotRead name) = no_file_text name.now
+text_of (Unread refusal) = unread_text refusal
+text_of (Unverified module_ refusal) = unverified_text module_.functions refusal
+text_of NotYet = codes "reopt: module: not yet\n"
+text_of (TooBig bytes size) = no_image_text bytes size
+text_of (Uncalled refusal) = uncalled_text refusal
+text_of (NoRoom needed) = room_text needed
+text_of NoMemory = codes "reopt: no memory\n"
+
+-- where a sink tells what it took, it took a front of this text more
+abbrev pub TookFront : Option (List ℕ) → Option (List ℕ) → List ℕ → Type 0
+TookFront old new text = (sent : ℕ) × (sent ≤ length text) × Took old new (take sent text)
+
+-- a text was written whole, or the sink failed behind a front of it; the counts of its faults before and after
+abbrev pub Wrote : List ℕ → Bool → Option (List ℕ) → Option (List ℕ) → ℕ → ℕ → ℕ → Type 0
+Wrote text unanswered old new before now status =
+    ((status ≡ status_when unanswered) × Took old new text × (now ≡ before)) ⊎ ((status ≡ 5) × TookFront old new text × Rose before now)
+
+-- what a sink took of a text: a front, and all of it where the count of its faults didn't rise
+pub record Said (old new : Option (List ℕ)) (before now : ℕ) (text : List ℕ) : Type 0 where
+  pub front : TookFront old new text
+  pub whole : (Rose before now → ⊥) → Took old new text
+
+-- a refusal whose text takes memory
+abbrev pub TakesMemory : Stop → Type 0
+TakesMemory Usage = ⊥
+TakesMemory (CannotRead name) = ⊥
+TakesMemory NotYet = ⊥
+TakesMemory stop = Unit {0}
+
+-- why the program stops was said: this, or that there is no memory for its text
+pub data SaidWhy (stop : Stop) (status : ℕ) (old new : Option (List ℕ)) (before now : ℕ) : Type 0 where
+  WithText : (is : status ≡ status_of stop) (said : Said old new before now (text_of stop)) → SaidWhy stop status old new before now
+  WithoutMemory : (takes : TakesMemory stop) (is : status ≡ 6) (said : Said old new before now (text_of NoMemory)) → SaidWhy stop status old new before now
+
+-- what the two sinks took, and the counts of their faults, before and after a run of the program
+pub record Sinks : Type 0 where
+  pub out_old : Option (List ℕ)
+  pub out_new : Option (List ℕ)
+  pub out_before : ℕ
+  pub out_now : ℕ
+  pub err_old : Option (List ℕ)
+  pub err_new : Option (List ℕ)
+  pub err_before : ℕ
+  pub err_now : ℕ
+
+-- nothing was written but the text that says why
+pub record Stopped (stop : Stop) (ends : ℕ) (sinks : Sinks) : Type 0 where
+  pub status : ends ≡ status_of stop
+  pub out : sinks.out_new ≡ sinks.out_old
+  pub faults : sinks.out_now ≡ sinks.out_before
+  pub said : Said sinks.err_old sinks.err_new sinks.err_before sinks.err_now (text_of stop)
+
+-- the same, or for want of memory for that text
+pub record StoppedWhy (stop : Stop) (status : ℕ) (sinks : Sinks) : Type 0 where
+  pub out : sinks.out_new ≡ sinks.out_old
+  pub faults : sinks.out_now ≡ sinks.out_before
+  pub said : SaidWhy stop status sinks.err_old sinks.err_new sinks.err_before sinks.err_now
+
+-- a text was written, and nothing said
+pub record Written (text : List ℕ) (unanswered : Bool) (status : ℕ) (sinks : Sinks) : Type 0 where
+  pub wrote : Wrote text unanswered sinks.out_old sinks.out_new sinks.out_before sinks.out_now status
+  pub quiet : sinks.err_new ≡ sinks.err_old
+
+-- what a status says of the run of these words over these files, with the counts of their faults before and after
+pub record Finished (words : List (List ℕ)) (told : List ℕ → Option (List ℕ)) (before now : ℕ) (sinks : Sinks) (status : ℕ) : Type 0 where
+  pub answered : status ≡ 0 → (text : List ℕ) × Answers words told text false × Took sinks.out_old sinks.out_new text
+  pub unanswered : status ≡ 1 → (text : List ℕ) × Answers words told text true × Took sinks.out_old sinks.out_new text
+  pub front : status ≡ 5 → (text : List ℕ) × (b : Bool) × Answers words told text b × TookFront sinks.out_old sinks.out_new text
+  pub write : status ≡ 5 → Rose sinks.out_before sinks.out_now
+  pub write_told : sinks.out_before < sinks.out_now → status ≡ 5
+  pub quiet : (status ≡ 0) ⊎ (status ≡ 1) ⊎ (status ≡ 5) → sinks.err_new ≡ sinks.err_old
+  pub stop : status ≢ 0 → status ≢ 1 → status ≢ 5 → (stop : Stop) × (status_of stop ≡ status)
+      × Cause words told before now stop
+      × (sinks.out_new ≡ sinks.out_old)
+      × Said sinks.err_old sinks.err_new sinks.err_before sinks.err_now (text_of stop)
+  pub usage : (status ≡ 3) ↔ (command_of words ≡ None)
+  pub load : status ≡ 4 → Rose before now
+  pub load_told : before < now → status ≡ 4
+  pub form : status ≡ 2 → TextRefused words told
+  pub room : status ≡ 7 → (needed : ℕ) × Stops words told (NoRoom needed)
