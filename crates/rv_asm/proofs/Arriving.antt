@@ -1,10 +1,10 @@
 -- Where the instructions of jumps and branches lead.
-use Rattle.std.proofs.Common.{◌≡◌, ◌≢◌, refl, sym, ap, subst, ◌∙◌, ℕ, zero, suc, ◌+◌, ◌-◌, ◌*◌, ◌/◌, ◌%◌, ◌^◌, ◌<◌, ◌≤◌, ◌⊎◌, inl, inr, ⊎_elim, List, [], ◌∷◌, length, Option, Some, Bool, true, false, cond, not, arith}
-use Rattle.std.specs.Prelude.{◌==◌, nat_le, nat_lt, ℤ, pos, negsuc, unsigned_abs}
+use Rattle.std.proofs.Common.{◌≡◌, ◌≢◌, refl, sym, ap, subst, ◌∙◌, ℕ, suc, ◌+◌, ◌-◌, ◌*◌, ◌%◌, ◌^◌, ◌<◌, ◌≤◌, ◌⊎◌, inl, inr, ⊎_elim, List, ◌∷◌, length, Some, Bool, true, false, cond, not, arith}
+use Rattle.std.specs.Prelude.{nat_le, nat_lt, ℤ, pos, negsuc}
 use Rattle.std.proofs.lemmas.Bool.{cases_lt, lt-ltb, le-ltb, le-leb, lt-leb, ltb-true, leb-true}
 use Rattle.std.proofs.lemmas.Int.{ints}
 use Rattle.rv_core.specs.Instr.{IsValid, AreValid, IsOffset}
-use Rattle.rv_core.specs.Step.{Registers, read, after, asks, is_taken, plus, modulo, sign_extend_word, written}
+use Rattle.rv_core.specs.Step.{Registers, read, after, asks, is_taken, plus, modulo, sign_extend_word}
 use Rattle.rv_core.specs.declared.reg.Reg.{Reg}
 use Rattle.rv_core.specs.declared.reg.Reg.TheVariants.{X0, T6}
 use Rattle.rv_core.specs.declared.instr.BranchOp.{BranchOp}
@@ -17,7 +17,7 @@ use Rattle.rv_asm.specs.declared.item.Form.TheVariants.{Short, Near, Far}
 use Rattle.rv_asm.specs.Constant.{upper, lower}
 use Rattle.rv_asm.specs.Layout.{offset, reaches, distance, opposite, far_code, jump_code, branch_code, CanJump, CanBranch}
 use Rattle.rv_asm.specs.Runs.{instr_at, Runs, Arrives}
-use Rattle.rv_asm.proofs.Bits.{written-other, parts, far-forward, far-backward, low-cases}
+use Rattle.rv_asm.proofs.Bits.{written-other, far-forward, far-backward}
 use Rattle.rv_asm.proofs.Standing.{Stands}
 
 -- ---- offsets
@@ -28,10 +28,10 @@ offset-forward place to h = ap (λ (b : Bool). cond b (pos (4 * (to - place))) (
 pub offset-backward : (place to : ℕ) → to < place → offset place to ≡ negsuc (4 * (place - to) - 1)
 offset-backward place to h = ap (λ (b : Bool). cond b (pos (4 * (to - place))) (negsuc (4 * (place - to) - 1))) (lt-leb place to h)
 
-reaches-forward : (half place to : ℕ) → place ≤ to → reaches half place to ≡ true → 4 * (to - place) < half
+pub reaches-forward : (half place to : ℕ) → place ≤ to → reaches half place to ≡ true → 4 * (to - place) < half
 reaches-forward half place to h r = ltb-true _ _ (sym (ap (λ (b : Bool). cond b (nat_lt (4 * (to - place)) half) (nat_le (4 * (place - to)) half)) (le-leb place to h)) ∙ r)
 
-reaches-backward : (half place to : ℕ) → to < place → reaches half place to ≡ true → 4 * (place - to) ≤ half
+pub reaches-backward : (half place to : ℕ) → to < place → reaches half place to ≡ true → 4 * (place - to) ≤ half
 reaches-backward half place to h r = leb-true _ _ (sym (ap (λ (b : Bool). cond b (nat_lt (4 * (to - place)) half) (nat_le (4 * (place - to)) half)) (lt-leb place to h)) ∙ r)
 
 -- an offset that reaches fits its field

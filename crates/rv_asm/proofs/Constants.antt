@@ -1,17 +1,16 @@
 -- The instructions that load a constant leave it in the register.
-use Rattle.std.proofs.Common.{◌≡◌, ◌≢◌, refl, sym, ap, subst, ◌∙◌, ℕ, zero, suc, ◌+◌, ◌-◌, ◌*◌, ◌/◌, ◌%◌, ◌^◌, ◌<◌, ◌≤◌, ◌⊎◌, inl, inr, ⊎_elim, List, [], ◌∷◌, ◌++◌, length, Bool, true, false, cond, arith, append_assoc}
+use Rattle.std.proofs.Common.{◌≡◌, ◌≢◌, refl, ap, ◌∙◌, ℕ, zero, suc, ◌+◌, ◌-◌, ◌*◌, ◌/◌, ◌%◌, ◌^◌, ◌<◌, ◌≤◌, ◌⊎◌, inl, inr, ⊎_elim, List, [], ◌∷◌, ◌++◌, Bool, true, false, cond, arith}
 use Rattle.std.specs.Prelude.{◌==◌, ◌||◌, nat_lt, nat_le, ℤ, pos, negsuc}
 use Rattle.std.proofs.lemmas.Bool.{cases_lt, ltb-true, ltb-false, leb-true, leb-false, lt-ltb, le-ltb}
 use Rattle.rv_core.specs.Reg.{number_of}
 use Rattle.rv_core.specs.declared.reg.Reg.{Reg}
-use Rattle.rv_core.specs.declared.reg.Reg.TheVariants.{X0}
 use Rattle.rv_core.specs.declared.instr.ImmOp.{ImmOp}
 use Rattle.rv_core.specs.declared.instr.ImmOp.TheVariants.{Addi, Slli, Addiw}
 use Rattle.rv_core.specs.declared.instr.Instr.{Instr}
 use Rattle.rv_core.specs.declared.instr.Instr.TheVariants.{Lui, Imm}
 use Rattle.rv_core.specs.Step.{Registers, written, write, next, after, modulo, sign_extend_word, op_value, register_form}
 use Rattle.rv_asm.specs.Constant.{upper, lower, is_twelve, is_word, high_part, add_low, word_code, const_code, after_all, Puts}
-use Rattle.rv_asm.proofs.Bits.{eq-true, is-not, write-is, read-is, written-same, written-twice, functions-equal, low-cases, sign-cases}
+use Rattle.rv_asm.proofs.Bits.{eq-true, write-is, read-is, written-same, written-twice, functions-equal, low-cases, sign-cases}
 
 -- ---- the arithmetic
 

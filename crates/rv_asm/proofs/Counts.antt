@@ -1,10 +1,10 @@
 -- The instructions that load a constant are as many as the constant takes.
-use Rattle.std.proofs.Common.{◌≡◌, refl, sym, ap, ◌∙◌, ℕ, zero, suc, ◌+◌, ◌-◌, ◌*◌, ◌/◌, ◌%◌, ◌^◌, ◌<◌, ◌≤◌, ⊎_elim, subst, List, [], ◌∷◌, ◌++◌, length, Bool, true, false, cond, arith}
-use Rattle.std.specs.Prelude.{◌==◌, ◌||◌, ◌&&◌, nat_lt, nat_le, int_le, int_div, ◌-ℤ◌, ℤ, pos, negsuc}
-use Rattle.std.proofs.lemmas.Bool.{cases_lt, lt-ltb, le-ltb, leb-true}
+use Rattle.std.proofs.Common.{◌≡◌, refl, sym, ap, ◌∙◌, ℕ, zero, suc, ◌+◌, ◌-◌, ◌/◌, ◌%◌, ◌^◌, ◌<◌, ◌≤◌, ⊎_elim, subst, [], ◌∷◌, ◌++◌, length, Bool, true, false, cond, arith}
+use Rattle.std.specs.Prelude.{◌==◌, nat_lt, int_div, ◌-ℤ◌, ℤ, pos, negsuc}
+use Rattle.std.proofs.lemmas.Bool.{cases_lt, lt-ltb, le-ltb}
 use Rattle.std.proofs.lemmas.Int.{ints}
 use Rattle.std.proofs.lemmas.List.{length-append}
-use Rattle.rj_num.specs.Width.{signed, modulo}
+use Rattle.rj_num.specs.Width.{signed}
 use Rattle.rj_num.specs.Constant.{words_within, words_of_constant, words_of_word, has_no_low_part, is_immediate, is_word as is_word_number, high_part as high_part_number}
 use Rattle.rv_core.specs.declared.reg.Reg.{Reg}
 use Rattle.rv_core.specs.declared.instr.ImmOp.{ImmOp}

@@ -1,10 +1,10 @@
 -- The words of items in the first forms that reach run as the items, wherever they stand.
-use Rattle.std.proofs.Common.{◌≡◌, refl, sym, ap, subst, ◌∙◌, ℕ, zero, suc, ◌+◌, ◌*◌, ◌%◌, ◌^◌, ◌<◌, ◌≤◌, List, [], ◌∷◌, ◌++◌, map, length, Option, Some, Bool, true, false, cond, arith, slice_index}
+use Rattle.std.proofs.Common.{◌≡◌, refl, sym, ap, subst, ◌∙◌, ℕ, zero, suc, ◌+◌, ◌*◌, ◌%◌, ◌^◌, ◌<◌, ◌≤◌, List, [], ◌∷◌, map, length, Option, Some, Bool, true, false, cond, arith, slice_index}
 use Rattle.std.proofs.lemmas.List.{length-append, length-map}
 use Rattle.rv_core.specs.Instr.{AreValid}
 use Rattle.rv_core.specs.declared.reg.Reg.{Reg}
 use Rattle.rv_core.specs.declared.instr.BranchOp.{BranchOp}
-use Rattle.rv_core.specs.Step.{Registers, read, is_taken}
+use Rattle.rv_core.specs.Step.{read, is_taken}
 use Rattle.rv_encode.specs.Spelling.{word_of}
 use Rattle.rv_asm.specs.declared.item.Item.{Item}
 use Rattle.rv_asm.specs.declared.item.Item.TheVariants.{Plain, BranchTo, JumpTo}
@@ -13,7 +13,7 @@ use Rattle.rv_asm.specs.declared.item.Form.TheVariants.{Short, Near, Far}
 use Rattle.rv_asm.specs.declared.item.Formed.{Formed}
 use Rattle.rv_asm.specs.Code.{Code, target, leads_to, IsSound, AreSound}
 use Rattle.rv_asm.specs.Layout.{jump_code, branch_code, item_code, size, first_form, places_from, laid, AreFirst, item_of, way, IsAssembly}
-use Rattle.rv_asm.specs.Runs.{instr_at, Arrives, ItemStands, ItemsStand, RunsAs}
+use Rattle.rv_asm.specs.Runs.{instr_at, ItemStands, ItemsStand, RunsAs}
 use Rattle.rv_asm.proofs.Standing.{Stands, stands-apart, stands-from, valid-append}
 use Rattle.rv_asm.proofs.Arriving.{Hops, arrives, jump-hops, branch-hops, first-jump, first-branch, jump-valid, branch-valid}
 

@@ -5,3 +5,4 @@ pub mod Laid
 pub mod Constants
 pub mod Counts
 pub mod Loops
+pub mod Least

@@ -1,14 +1,13 @@
 -- What the loops over items keep.
-use Rattle.std.proofs.Common.{◌≡◌, refl, sym, ap, subst, ◌∙◌, ℕ, zero, suc, ◌+◌, ◌*◌, ◌^◌, ◌<◌, ◌≤◌, List, [], ◌∷◌, ◌++◌, map, length, drop, get_or, take, Option, Bool, true, false, cond, arith, append_assoc, slice_index}
+use Rattle.std.proofs.Common.{◌≡◌, refl, sym, ap, subst, ◌∙◌, ℕ, zero, suc, ◌+◌, ◌^◌, ◌<◌, ◌≤◌, List, [], ◌∷◌, ◌++◌, map, length, drop, get_or, take, Bool, true, false, cond, arith, append_assoc, slice_index}
 use Rattle.std.proofs.Math.Seq.{drop-cons}
 use Rattle.std.proofs.lemmas.List.{length-append, length-map}
 use Rattle.rv_core.specs.declared.instr.Instr.{Instr}
 use Rattle.rv_encode.specs.Spelling.{word_of}
 use Rattle.rv_asm.specs.declared.item.Item.{Item}
-use Rattle.rv_asm.specs.declared.item.Item.TheVariants.{Plain}
 use Rattle.rv_asm.specs.declared.item.Formed.{Formed}
-use Rattle.rv_asm.specs.Code.{Code, IsSound, AreSound, IsCode}
-use Rattle.rv_asm.specs.Layout.{item_code, size, first_form, places_from, laid, AreFirst, item_of, goes_to, way, IsAssembly}
+use Rattle.rv_asm.specs.Code.{IsSound, AreSound, IsCode}
+use Rattle.rv_asm.specs.Layout.{item_code, size, first_form, places_from, laid, AreFirst, item_of, first_from}
 use Rattle.rv_asm.proofs.Laid.{sizes-few, place-below}
 
 drop-one : (xs : List Formed) (k : ℕ) (d : Formed) → k < length xs → drop k xs ≡ get_or xs k d ∷ drop (k + 1) xs
@@ -68,15 +67,19 @@ words-on to xs k place n d w w' total h e made same =
     ∙ ap (λ (ys : List Formed). w ++ map word_of (laid to place ys)) (sym (drop-one xs k d h))
     ∙ same
 
--- the words of items that all have their first form
-pub is-assembly : (xs ys zs : List Formed) (items : List Item) (bound : List (Option ℕ)) (places words : List ℕ) → map item_of xs ≡ items → places ≡ places_from 0 xs
-    → AreFirst (goes_to bound places) 0 xs → words ≡ map word_of (laid (goes_to bound places) 0 xs) → IsAssembly (record { items = items; bound = bound }) words
-is-assembly xs ys zs items bound places words same e first spelled = record {
-  formed = xs;
-  items = same;
-  first = subst (λ (ps : List ℕ). AreFirst (goes_to bound ps) 0 xs) e first;
-  made = spelled ∙ ap (λ (ps : List ℕ). map word_of (laid (goes_to bound ps) 0 xs)) e;
-}
+-- one form more
+pub forms-on : (to : Item → ℕ) (xs : List Formed) (k place n : ℕ) (d : Formed) (w w' total : List Formed) → k < length xs → n ≡ size (get_or xs k d).form (get_or xs k d).item
+    → w' ≡ w ++ record { item = (get_or xs k d).item; form = first_form (get_or xs k d).item place (to (get_or xs k d).item) } ∷ [] → w ++ first_from to place (drop k xs) ≡ total
+    → w' ++ first_from to (place + n) (drop (k + 1) xs) ≡ total
+forms-on to xs k place n d w w' total h e made same =
+    let x = get_or xs k d in
+    let y : Formed = record { item = x.item; form = first_form x.item place (to x.item) } in
+    let rest : List Formed = first_from to (place + size x.form x.item) (drop (k + 1) xs) in
+    ap (λ (m : ℕ). w' ++ first_from to (place + m) (drop (k + 1) xs)) e
+    ∙ ap (λ (v : List Formed). v ++ rest) made
+    ∙ append_assoc w (y ∷ []) rest
+    ∙ ap (λ (ys : List Formed). w ++ first_from to place ys) (sym (drop-one xs k d h))
+    ∙ same
 
 -- ---- code that is being written
 

@@ -1,5 +1,5 @@
 -- The instructions of code with labels. Places are counted in words from the first.
-use Rattle.std.specs.Prelude.{◌≡◌, ℕ, ◌+◌, ◌-◌, ◌*◌, ◌/◌, ◌%◌, ◌^◌, ℤ, pos, negsuc, Bool, true, if◌then◌else◌, nat_lt, nat_le, List, [], ◌∷◌, ◌++◌, map, length, Option, slice_index}
+use Rattle.std.specs.Prelude.{◌≡◌, ℕ, ◌+◌, ◌-◌, ◌*◌, ◌%◌, ◌^◌, ℤ, pos, negsuc, Bool, true, if◌then◌else◌, nat_lt, nat_le, List, [], ◌∷◌, ◌++◌, map, Option, slice_index}
 use Rattle.rv_core.specs.declared.reg.Reg.{Reg}
 use Rattle.rv_core.specs.declared.reg.Reg.TheVariants.{X0, T6}
 use Rattle.rv_core.specs.declared.instr.BranchOp.{BranchOp}
@@ -98,11 +98,37 @@ item_of x = x.item
 abbrev pub way : List (Option ℕ) → List Formed → Item → ℕ
 way bound xs = goes_to bound (places_from 0 xs)
 
--- the words are those of the items in order, each in the first form that reaches
+-- a form is no longer than another
+abbrev pub IsNoLonger : Form → Form → Type 0
+IsNoLonger Short form = Unit {0}
+IsNoLonger Near Short = ⊥
+IsNoLonger Near Near = Unit {0}
+IsNoLonger Near Far = Unit {0}
+IsNoLonger Far Short = ⊥
+IsNoLonger Far Near = ⊥
+IsNoLonger Far Far = Unit {0}
+
+-- item by item, none is longer
+abbrev pub AreNoLonger : List Formed → List Formed → Type 0
+AreNoLonger [] [] = Unit {0}
+AreNoLonger [] (y ∷ ys) = ⊥
+AreNoLonger (x ∷ xs) [] = ⊥
+AreNoLonger (x ∷ xs) (y ∷ ys) = (x.item ≡ y.item) × (IsNoLonger x.form y.form × AreNoLonger xs ys)
+
+abbrev pub in_short : Item → Formed
+in_short item = record { item = item; form = Short }
+
+-- items with the first form that reaches from where each stands now, whatever form it has
+abbrev pub first_from : (Item → ℕ) → ℕ → List Formed → List Formed
+first_from to place [] = []
+first_from to place (x ∷ xs) = record { item = x.item; form = first_form x.item place (to x.item) } ∷ first_from to (place + size x.form x.item) xs
+
+-- the words are those of the items in order, each in the first form that reaches, and of all such choices of forms it is the shortest, item by item
 pub record IsAssembly (code : Code) (words : List ℕ) : Type 0 where
   pub formed : List Formed
   pub items : map item_of formed ≡ code.items
   pub first : AreFirst (way code.bound formed) 0 formed
+  pub least : (others : List Formed) → map item_of others ≡ code.items → AreFirst (way code.bound others) 0 others → AreNoLonger formed others
   pub made : words ≡ map word_of (laid (way code.bound formed) 0 formed)
 
 -- the form's instructions have offsets that reach
@@ -115,3 +141,7 @@ abbrev pub CanBranch : Form → ℕ → ℕ → Type 0
 CanBranch Short place to = reaches 4096 place to ≡ true
 CanBranch Near place to = reaches (2 ^ 20) (place + 1) to ≡ true
 CanBranch Far place to = Unit {0}
+
+-- code has one assembly
+abbrev pub OneAssembly : Type 0
+OneAssembly = (code : Code) (v w : List ℕ) → IsAssembly code v → IsAssembly code w → v ≡ w

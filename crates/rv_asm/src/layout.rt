@@ -4,7 +4,7 @@ ghost use Rattle.std.specs.Prelude.{◌≡◌, ◌+◌, ◌*◌, ◌%◌, ◌<�
 ghost use Rattle.rv_core.specs.Instr.{IsValid, IsOffset};
 ghost use Rattle.rv_encode.specs.Spelling.{word_of};
 ghost use Rattle.rv_asm.specs.Code.{IsCode, IsSound, AreSound, target};
-ghost use Rattle.rv_asm.specs.Layout.{offset, distance, reaches, opposite, far_code, jump_code, branch_code, item_code, size, first_form, places_from, goes_to, laid, AreFirst, item_of, IsAssembly, CanJump, CanBranch};
+ghost use Rattle.rv_asm.specs.Layout.{offset, distance, reaches, opposite, far_code, jump_code, branch_code, item_code, size, first_form, places_from, goes_to, laid, AreFirst, item_of, in_short, first_from, IsAssembly, CanJump, CanBranch};
 ghost use Rattle.rv_asm.specs.Constant.{upper, lower};
 ghost use Rattle.rv_asm.specs.Runs.{RunsAs};
 
@@ -49,7 +49,8 @@ fn lay_out(alloc: Global, items: &[Item], bound: &[Option<u32>]) -> Result<Vec<u
 }
 
 fn all_short(alloc: Global, items: &[Item]) -> Result<Vec<Formed>, NoMemory>
-    ensures { IfOk result (λ formed. map item_of formed.items ≡ items.now) }
+    ensures items { IfOk result (λ formed. map item_of formed.items ≡ items.now) }
+    ensures short { IfOk result (λ formed. formed.items ≡ map in_short items.now) }
 {
     let mut formed = Vec::new(alloc);
     for item in items {
@@ -113,7 +114,8 @@ fn first_forms(
 ) -> Result<Vec<Formed>, NoMemory>
     requires few { length formed.now ≤ 2 ^ 29 }
     requires below { (k : ℕ) → slice_index places.now k < 2 ^ 31 }
-    ensures { IfOk result (λ more. map item_of more.items ≡ map item_of formed.now) }
+    ensures items { IfOk result (λ more. map item_of more.items ≡ map item_of formed.now) }
+    ensures forms { IfOk result (λ more. more.items ≡ first_from (goes_to bound.now places.now) 0 formed.now) }
 {
     let mut more = Vec::new(alloc);
     let mut place = 0;

@@ -4,6 +4,7 @@
 pub mod asm;
 pub mod constant;
 pub mod item;
+pub mod laws;
 pub mod layout;
 #[cfg(test)]
 mod tests;
