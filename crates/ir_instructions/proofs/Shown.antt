@@ -29,18 +29,19 @@ use Rattle.ir_names.specs.declared.fault.Fault.{Fault}
 use Rattle.ir_names.specs.declared.fault.Fault.TheVariants as faults
 use Rattle.ir_names.specs.declared.tables.Target.{Target}
 use Rattle.ir_names.specs.declared.tables.Target.TheVariants as targets
-use Rattle.ir_names.specs.Walk.{◌>>=◌, walk}
+use Rattle.ir_names.specs.Walk.{◌>>=◌, walk, or_fault}
+use Rattle.ir_names.specs.Tables.{target_named}
 use Rattle.ir_types.specs.declared.names.Table.{Table}
-use Rattle.ir_types.specs.Names.{Symbols, named_target}
+use Rattle.ir_types.specs.Names.{Symbols, bytes_of, named_target}
 use Rattle.ir_constants.specs.Literals.{literal_of}
 use Rattle.ir_operands.specs.Operands.{is_ty, where_ty, number_operand, operand, typed, typed_as, block_of, place_of_value, place_of_type}
 use Rattle.ir_operands.specs.Causes.{TypeFault}
-use Rattle.ir_operands.proofs.Shown.{chain, gives-then, carry, ok-fails, type_fails, value_fails, block_fails, named-fails, where-fails}
+use Rattle.ir_operands.proofs.Shown.{chain, gives-then, carry, ok-fails, type_fails, value_fails, block_fails, bytes-fail, where-fails}
 use Rattle.ir_instructions.specs.declared.lists.TypedList.{TypedList}
-use Rattle.ir_instructions.specs.Instructions.{result_type, typed_step, typed_list, incoming_step, incoming_list, case_number, case_value, case_step, case_list, binary, comparison, cast, selection, freezing, phi, loading, storing, callee_number, direct_call, built_in_call, own_call, call, returned_type, returning, ret, jump, fork, switching, alloca, gep, operation}
+use Rattle.ir_instructions.specs.Instructions.{result_type, typed_step, typed_list, incoming_step, incoming_list, case_number, case_value, case_step, case_list, binary, comparison, cast, selection, freezing, phi, loading, storing, callee_number, symbol_of, direct_call, built_in_call, own_call, named_call, call, returned_type, returning, ret, jump, fork, switching, alloca, gep, operation}
 use Rattle.ir_instructions.specs.declared.built_ins.NamedBuiltIn.{NamedBuiltIn}
 use Rattle.ir_instructions.specs.BuiltIns.{built_in_of, is_of_memory, measured, has_width, quiet_value, quiet_argument, quiet, fitting}
-use Rattle.ir_instructions.specs.Causes.{Ask, some_type, some_value, this_type, same_type, some_number, some_block, some_callee, some_quiet, some_width, some_memory, some_count, some_aligns, some_entry, returned, typed_asks, list_asks, incoming_asks, case_asks, call_asks, entry_asks, asks, CalleeFault, QuietFault, WidthFault, IsMemoryCallee, AskFault, Among, Unanswered, IsNoNumber, ResultFault, Reached}
+use Rattle.ir_instructions.specs.Causes.{Ask, some_type, some_value, this_type, same_type, some_number, some_block, some_callee, some_quiet, some_width, some_memory, some_count, some_aligns, some_entry, returned, typed_asks, list_asks, incoming_asks, case_asks, call_asks, entry_asks, asks, CalleeFault, QuietFault, WidthFault, IsMemoryCallee, NamesBuiltIn, AskFault, Among, Unanswered, IsNoNumber, ResultFault, Reached}
 
 -- a walk that fails does so at an item that it reached
 pub walk_fails : {S T : Type 0} (step : S → T → Result S Fault) (s : S) (xs : List T) (e : Fault) (P : Type 0) → ((before : S) (x : T) → Reached step s xs before x → step before x ≡ Err e → P) → walk step s xs ≡ Err e → P
@@ -280,12 +281,28 @@ module _ (types : Types) (symbols : Symbols) (table : Table) where
   callee-target-fails P e left (targets.Block n) p q h = carry P (faults.Name left) e (q (λ m same. absurd cc) (λ m same. absurd cc)) h
   callee-target-fails P e left (targets.Type n) p q h = carry P (faults.Name left) e (q (λ m same. absurd cc) (λ m same. absurd cc)) h
 
-  direct-fails : (e : Fault) (callee : Name) (arguments : List Typed) → direct_call types symbols table callee arguments ≡ Err e → Unanswered types symbols table (some_callee false callee ∷ some_quiet callee arguments ∷ some_width callee arguments ∷ list_asks arguments) e
+  -- what a call of this name asks, but for its result's type
+  abbrev asks_of : Name → List Typed → List Ask
+  asks_of callee arguments = some_callee false callee ∷ some_quiet callee arguments ∷ some_width callee arguments ∷ list_asks arguments
+
+  -- what a name stands for is what its bytes stand for
+  target-of : (callee : Name) (bytes : List ℕ) → bytes_of callee ≡ Ok bytes → named_target symbols callee ≡ symbol_of symbols callee.left bytes
+  unfolding named_target
+  target-of callee bytes is = rw is refl
+
+  symbol-fails : (P : Fault → Type 0) (callee : Name) (bytes : List ℕ) (e : Fault) → bytes_of callee ≡ Ok bytes → (((target : Target) → named_target symbols callee ≡ Ok target → ⊥) → P (faults.Name callee.left)) → symbol_of symbols callee.left bytes ≡ Err e → P e
+  symbol-fails P callee bytes e is q h = by (target_named bytes symbols) (target-of callee bytes is) h
+    where
+      by : (o : Option Target) → named_target symbols callee ≡ or_fault (faults.Name callee.left) o → or_fault (faults.Name callee.left) o ≡ Err e → P e
+      by None stands h = carry P (faults.Name callee.left) e (q (λ target found. let none = sym stands ∙ found in absurd cc)) h
+      by (Some target) stands h = ok-fails target e h
+
+  direct-fails : (e : Fault) (callee : Name) (arguments : List Typed) (bytes : List ℕ) → bytes_of callee ≡ Ok bytes → direct_call types symbols table callee arguments bytes ≡ Err e → Unanswered types symbols table (asks_of callee arguments) e
   unfolding direct_call
-  direct-fails e callee arguments h =
-      chain (Unanswered types symbols table (some_callee false callee ∷ some_quiet callee arguments ∷ some_width callee arguments ∷ list_asks arguments) e) (named_target symbols callee) (λ target. callee_number callee.left target >>= λ n. typed_list types symbols table arguments >>= λ all. Ok (core.Call n all)) e
-      (λ first. one e (some_callee false callee) _ (named-fails (CalleeFault symbols false callee) symbols callee e (λ bad. bad) (λ none. (refl, ((λ g. none (targets.Global g.0) g.1), (λ g. none (targets.Function g.0) g.1)))) first))
-      (λ target is more. chain (Unanswered types symbols table (some_callee false callee ∷ some_quiet callee arguments ∷ some_width callee arguments ∷ list_asks arguments) e) (callee_number callee.left target) (λ n. typed_list types symbols table arguments >>= λ all. Ok (core.Call n all)) e
+  direct-fails e callee arguments bytes named h =
+      chain (Unanswered types symbols table (asks_of callee arguments) e) (symbol_of symbols callee.left bytes) (λ target. callee_number callee.left target >>= λ n. typed_list types symbols table arguments >>= λ all. Ok (core.Call n all)) e
+      (λ first. one e (some_callee false callee) _ (symbol-fails (CalleeFault symbols false callee) callee bytes e named (λ none. (refl, ((λ g. none (targets.Global g.0) g.1), (λ g. none (targets.Function g.0) g.1)))) first))
+      (λ target found more. let is = target-of callee bytes named ∙ found in chain (Unanswered types symbols table (asks_of callee arguments) e) (callee_number callee.left target) (λ n. typed_list types symbols table arguments >>= λ all. Ok (core.Call n all)) e
       (λ second. one e (some_callee false callee) _ (callee-target-fails (CalleeFault symbols false callee) e callee.left target
       (λ g. (refl, inr (inr (g.0, is ∙ ap (λ t. Ok t) g.1))))
       (λ f g. (refl, ((λ m. g m.0 (let h = m.1 in cc)), (λ m. f m.0 (let h = m.1 in cc))))) second))
@@ -309,7 +326,7 @@ module _ (types : Types) (symbols : Symbols) (table : Table) where
       (λ left never. (moves, λ last at some same. never at (let one_ : given ≡ last = cc in ap (λ (t : Typed). t.value) one_ ∙ same)))
       (λ left same. (moves, (given, is, same))) h
 
-  quiet-fails : (e : Fault) (callee : Name) (named : NamedBuiltIn) (arguments : List Typed) → built_in_of callee.bytes ≡ Some named → quiet callee.left named.which arguments ≡ Err e → QuietFault callee arguments e
+  quiet-fails : (e : Fault) (callee : Name) (named : NamedBuiltIn) (arguments : List Typed) → NamesBuiltIn callee named → quiet callee.left named.which arguments ≡ Err e → QuietFault callee arguments e
   quiet-fails e callee named arguments is h = by (is_of_memory named.which) refl h
     where
       by : (b : Bool) → is_of_memory named.which ≡ b → if◌then◌else◌ {A = Result (Unit {0}) Fault} b (quiet_argument callee.left (slice_get arguments (length arguments - 1))) (Ok tt) ≡ Err e → QuietFault callee arguments e
@@ -323,7 +340,7 @@ module _ (types : Types) (symbols : Symbols) (table : Table) where
       by true is h = absurd cc
       by false is h = carry P (faults.Name at) e (p is) h
 
-  built-in-fails : (e : Fault) (callee : Name) (arguments : List Typed) (named : NamedBuiltIn) → built_in_of callee.bytes ≡ Some named → built_in_call types symbols table callee arguments named ≡ Err e → Unanswered types symbols table (call_asks false callee arguments) e
+  built-in-fails : (e : Fault) (callee : Name) (arguments : List Typed) (named : NamedBuiltIn) → NamesBuiltIn callee named → built_in_call types symbols table callee arguments named ≡ Err e → Unanswered types symbols table (call_asks false callee arguments) e
   unfolding built_in_call
   built-in-fails e callee arguments named is h =
       chain (Unanswered types symbols table (call_asks false callee arguments) e) (typed_list types symbols table arguments) (λ all. quiet callee.left named.which arguments >>= λ _. fitting callee.left named all >>= λ _. Ok (core.BuiltIn named.which all)) e
@@ -334,18 +351,25 @@ module _ (types : Types) (symbols : Symbols) (table : Table) where
       (λ third. one e (some_width callee arguments) _ (fitting-fails (WidthFault types symbols table callee arguments) e callee.left named all (λ bad. (refl, (named, is, all, made, bad))) third))
       (λ _ fits none. ok-fails (core.BuiltIn named.which all) e none) last)) more)) h
 
-  own-fails : (e : Fault) (callee : Name) (arguments : List Typed) (named : Option NamedBuiltIn) → starts_with nat_eq callee.bytes (codes "llvm.") ≡ true → built_in_of callee.bytes ≡ named → own_call types symbols table callee arguments named ≡ Err e → Unanswered types symbols table (call_asks false callee arguments) e
-  own-fails e callee arguments None own is h = carry (Unanswered types symbols table (call_asks false callee arguments)) (faults.LeftOut callee.left) e (one (faults.LeftOut callee.left) (some_callee false callee) _ (refl, inr (inl (own, is)))) h
-  own-fails e callee arguments (Some named) own is h = built-in-fails e callee arguments named is h
+  own-fails : (e : Fault) (callee : Name) (arguments : List Typed) (bytes : List ℕ) (named : Option NamedBuiltIn) → bytes_of callee ≡ Ok bytes → starts_with nat_eq bytes (codes "llvm.") ≡ true → built_in_of bytes ≡ named → own_call types symbols table callee arguments named ≡ Err e → Unanswered types symbols table (call_asks false callee arguments) e
+  own-fails e callee arguments bytes None says own is h = carry (Unanswered types symbols table (call_asks false callee arguments)) (faults.LeftOut callee.left) e (one (faults.LeftOut callee.left) (some_callee false callee) _ (refl, inr (inl (bytes, says, own, is)))) h
+  own-fails e callee arguments bytes (Some named) says own is h = built-in-fails e callee arguments named (bytes, says, is) h
+
+  named-call-fails : (e : Fault) (callee : Name) (arguments : List Typed) (bytes : List ℕ) → bytes_of callee ≡ Ok bytes → named_call types symbols table callee arguments bytes ≡ Err e → Unanswered types symbols table (call_asks false callee arguments) e
+  unfolding named_call
+  named-call-fails e callee arguments bytes says h = by (starts_with nat_eq bytes (codes "llvm.")) refl h
+    where
+      by : (b : Bool) → starts_with nat_eq bytes (codes "llvm.") ≡ b → (if b then own_call types symbols table callee arguments (built_in_of bytes) else direct_call types symbols table callee arguments bytes) ≡ Err e → Unanswered types symbols table (call_asks false callee arguments) e
+      by true is h = own-fails e callee arguments bytes (built_in_of bytes) says is refl h
+      by false is h = direct-fails e callee arguments bytes says h
 
   call-fails : (e : Fault) (is_local : Bool) (callee : Name) (arguments : List Typed) → call types symbols table is_local callee arguments ≡ Err e → Unanswered types symbols table (call_asks is_local callee arguments) e
   unfolding call
   call-fails e true callee arguments h = carry (Unanswered types symbols table (call_asks true callee arguments)) (faults.LeftOut callee.left) e (one (faults.LeftOut callee.left) (some_callee true callee) _ (refl, inl refl)) h
-  call-fails e false callee arguments h = by (starts_with nat_eq callee.bytes (codes "llvm.")) refl h
-    where
-      by : (b : Bool) → starts_with nat_eq callee.bytes (codes "llvm.") ≡ b → (if b then own_call types symbols table callee arguments (built_in_of callee.bytes) else direct_call types symbols table callee arguments) ≡ Err e → Unanswered types symbols table (call_asks false callee arguments) e
-      by true is h = own-fails e callee arguments (built_in_of callee.bytes) is refl h
-      by false is h = direct-fails e callee arguments h
+  call-fails e false callee arguments h =
+      chain (Unanswered types symbols table (call_asks false callee arguments) e) (bytes_of callee) (named_call types symbols table callee arguments) e
+      (λ first. one e (some_callee false callee) _ (bytes-fail (CalleeFault symbols false callee) callee e (λ bad. bad) first))
+      (λ bytes says more. named-call-fails e callee arguments bytes says more) h
 
   returned-by : (e : Fault) (ret : List TypeNode) (ty an : Ty) (given : List TypeNode) (value : Value) (fits : Bool) → type_of types ret ≡ Ok ty → type_of types given ≡ Ok an → (is_ty an ty && not (is_ty an values.Void)) ≡ fits → (an ≡ ty ⊎ (fits ≡ false))
       → (if fits then (operand types symbols table ty value >>= λ a. Ok (core.Ret (Some a))) else Err (faults.Syntax (place_of_type given))) ≡ Err e → Unanswered types symbols table (some_type given ∷ returned ret given ∷ some_value given value ∷ []) e

@@ -20,7 +20,7 @@ use Rattle.ir_types.specs.declared.table.Types.{Types}
 use Rattle.ir_names.specs.declared.fault.Fault.{Fault}
 use Rattle.ir_names.specs.declared.fault.Fault.TheVariants as faults
 use Rattle.ir_types.specs.declared.names.Table.{Table}
-use Rattle.ir_types.specs.Names.{Symbols}
+use Rattle.ir_types.specs.Names.{Symbols, bytes_of}
 use Rattle.ir_operands.specs.Operands.{is_ty}
 use Rattle.ir_operands.specs.Causes.{TypeFault, ValueFault, BlockFault, Misfits, IsNoType, IsMisspelt, IsMisspeltLocal, IsNoSymbol, NamesGlobal}
 use Rattle.ir_instructions.specs.declared.built_ins.NamedBuiltIn.{NamedBuiltIn}
@@ -112,9 +112,13 @@ IsNoNumber (written.Null left) = Unit {0}
 IsNoNumber (written.Poison left) = Unit {0}
 IsNoNumber (written.Address address) = Unit {0}
 
--- a name of LLVM's own that is no built-in
+-- a name of LLVM's own that is no built-in, by its bytes
 abbrev pub IsOtherOwn : Name → Type 0
-IsOtherOwn name = (starts_with nat_eq name.bytes (codes "llvm.") ≡ true) × (built_in_of name.bytes ≡ None)
+IsOtherOwn name = (bytes : List ℕ) × (bytes_of name ≡ Ok bytes) × (starts_with nat_eq bytes (codes "llvm.") ≡ true) × (built_in_of bytes ≡ None)
+
+-- a name of this built-in, by its bytes
+abbrev pub NamesBuiltIn : Name → NamedBuiltIn → Type 0
+NamesBuiltIn name named = (bytes : List ℕ) × (bytes_of name ≡ Ok bytes) × (built_in_of bytes ≡ Some named)
 
 -- a callee that is left out: a local name, a global's name, or a name of LLVM's own that is no built-in
 abbrev pub IsLeftOutCallee : Symbols → Bool → Name → Type 0
@@ -122,7 +126,7 @@ IsLeftOutCallee symbols is_local name = (is_local ≡ true) ⊎ (IsOtherOwn name
 
 -- a built-in of memory
 abbrev pub IsMemoryCallee : Name → Type 0
-IsMemoryCallee name = (named : NamedBuiltIn) × (built_in_of name.bytes ≡ Some named) × (is_of_memory named.which ≡ true)
+IsMemoryCallee name = (named : NamedBuiltIn) × NamesBuiltIn name named × (is_of_memory named.which ≡ true)
 
 -- the last argument is written `true`, at the place
 abbrev pub EndsByTrue : List Typed → ℕ → Type 0
@@ -141,7 +145,7 @@ QuietFault name arguments (faults.Limit what count) = ⊥
 
 -- a built-in of the name isn't defined for the operands: they have another width
 abbrev pub HasOtherWidth : Types → Symbols → Table → Name → List Typed → Type 0
-HasOtherWidth types symbols table name arguments = (named : NamedBuiltIn) × (built_in_of name.bytes ≡ Some named) × (all : List (Ty × Operand)) × (typed_list types symbols table arguments ≡ Ok all) × (has_width named.width (slice_get all (measured named.which)) ≡ false)
+HasOtherWidth types symbols table name arguments = (named : NamedBuiltIn) × NamesBuiltIn name named × (all : List (Ty × Operand)) × (typed_list types symbols table arguments ≡ Ok all) × (has_width named.width (slice_get all (measured named.which)) ≡ false)
 
 abbrev pub WidthFault : Types → Symbols → Table → Name → List Typed → Fault → Type 0
 WidthFault types symbols table name arguments faults.NoMemory = ⊥

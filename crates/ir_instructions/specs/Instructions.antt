@@ -27,14 +27,15 @@ use Rattle.ir_names.specs.declared.fault.Fault.{Fault}
 use Rattle.ir_names.specs.declared.fault.Fault.TheVariants as faults
 use Rattle.ir_names.specs.declared.tables.Target.{Target}
 use Rattle.ir_names.specs.declared.tables.Target.TheVariants as targets
-use Rattle.ir_names.specs.Walk.{◌>>=◌, walk}
+use Rattle.ir_names.specs.Walk.{◌>>=◌, walk, or_fault}
+use Rattle.ir_names.specs.Tables.{target_named}
 use Rattle.ir_types.specs.declared.names.Table.{Table}
 use Rattle.ir_instructions.specs.declared.built_ins.NamedBuiltIn.{NamedBuiltIn}
 use Rattle.ir_instructions.specs.BuiltIns.{built_in_of, quiet, fitting}
 use Rattle.ir_instructions.specs.declared.lists.TypedList.{TypedList}
 use Rattle.ir_instructions.specs.declared.lists.IncomingList.{IncomingList}
 use Rattle.ir_instructions.specs.declared.lists.CaseList.{CaseList}
-use Rattle.ir_types.specs.Names.{Symbols, named_target}
+use Rattle.ir_types.specs.Names.{Symbols, bytes_of}
 use Rattle.ir_operands.specs.Operands.{is_ty, operand, typed, typed_as, block_of, place_of_value, place_of_type}
 
 -- the type of an instruction's result; `void` where it has none
@@ -145,9 +146,13 @@ callee_number left (targets.Value n) = Err (faults.Name left)
 callee_number left (targets.Block n) = Err (faults.Name left)
 callee_number left (targets.Type n) = Err (faults.Name left)
 
-unfoldable pub direct_call : Types → Symbols → Table → Name → List Typed → Result Op Fault
-direct_call types symbols table callee arguments = do
-  target ← named_target symbols callee
+-- what these bytes of a name stand for among globals and functions
+abbrev pub symbol_of : Symbols → ℕ → List ℕ → Result Target Fault
+symbol_of symbols left bytes = or_fault (faults.Name left) (target_named bytes symbols)
+
+unfoldable pub direct_call : Types → Symbols → Table → Name → List Typed → List ℕ → Result Op Fault
+direct_call types symbols table callee arguments bytes = do
+  target ← symbol_of symbols callee.left bytes
   n ← callee_number callee.left target
   all ← typed_list types symbols table arguments
   Ok (core.Call n all)
@@ -165,12 +170,17 @@ abbrev pub own_call : Types → Symbols → Table → Name → List Typed → Op
 own_call types symbols table callee arguments None = Err (faults.LeftOut callee.left)
 own_call types symbols table callee arguments (Some named) = built_in_call types symbols table callee arguments named
 
+-- a call by the bytes of a name: those that begin with `llvm.` are LLVM's own, however they are written
+unfoldable pub named_call : Types → Symbols → Table → Name → List Typed → List ℕ → Result Op Fault
+named_call types symbols table callee arguments bytes =
+    if starts_with nat_eq bytes (codes "llvm.") then own_call types symbols table callee arguments (built_in_of bytes)
+    else direct_call types symbols table callee arguments bytes
+
 -- an indirect callee is left out
 unfoldable pub call : Types → Symbols → Table → Bool → Name → List Typed → Result Op Fault
 call types symbols table is_local callee arguments =
     if is_local then Err (faults.LeftOut callee.left)
-    else if starts_with nat_eq callee.bytes (codes "llvm.") then own_call types symbols table callee arguments (built_in_of callee.bytes)
-    else direct_call types symbols table callee arguments
+    else bytes_of callee >>= named_call types symbols table callee arguments
 
 abbrev pub returned_type : Types → Ty → List TypeNode → Result Bool Fault
 returned_type types ret given = type_of types given >>= λ ty. Ok (is_ty ty ret && not (is_ty ty values.Void))

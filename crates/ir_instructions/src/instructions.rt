@@ -1,20 +1,20 @@
 ghost use Rattle.std.specs.Prelude.{◌≡◌};
 ghost use Rattle.ir_names.specs.Walk.{Gives};
-ghost use Rattle.ir_instructions.specs.Instructions.{result_type, binary, comparison, cast, selection, freezing, phi, loading, storing, callee_number, direct_call, built_in_call, own_call, call, returned_type, returning, ret, jump, fork, switching, in_entry, alloca, gep, operation};
+ghost use Rattle.ir_instructions.specs.Instructions.{result_type, binary, comparison, cast, selection, freezing, phi, loading, storing, callee_number, symbol_of, direct_call, built_in_call, own_call, named_call, call, returned_type, returning, ret, jump, fork, switching, in_entry, alloca, gep, operation};
 
 use crate::built_ins::{NamedBuiltIn, built_in_of, fitting, quiet};
 use crate::counts::{item_count, small_aligns};
 use crate::lists::{case_list, incoming_list, typed_list};
 use ir_core::code::{BinOp, CastOp, Flags, Op, Pred};
 use ir_core::types::Ty;
-use ir_names::{Fault, Target};
+use ir_names::{Fault, Named, Target};
 use ir_operands::operands::{
     block_of, is_ty, operand, place_of_type, place_of_value, typed, typed_as,
 };
 use ir_operands::scope::Outer;
 use ir_text::Name;
 use ir_tree::{Case, Incoming, Operation};
-use ir_types::{Table, memory, named_target, type_of};
+use ir_types::{Table, bytes_of, memory, type_of};
 use ir_values::tree::{Typed, Value};
 use ir_words::tree::{Align, TypeNode};
 
@@ -150,16 +150,27 @@ fn callee_number(left: usize, target: Target) -> Result<u32, Fault>
     }
 }
 
+/// What the bytes of a name stand for; `left` is the name's place.
+fn symbol_of(symbols: &Named, left: usize, bytes: &[u8]) -> Result<Target, Fault>
+    ensures { Gives (λ target. target) result (symbol_of symbols.now left bytes.now) }
+{
+    match symbols.find(bytes) {
+        Some(target) => Ok(target),
+        None => Err(Fault::Name(left)),
+    }
+}
+
 #[tactic(auto, unfolding(crate::specs::Instructions::direct_call))]
 fn direct_call(
     outer: &Outer,
     table: &Table,
     callee: &Name,
     arguments: &[Typed],
+    bytes: &[u8],
 ) -> Result<Op, Fault>
-    ensures { Gives (λ op. op) result (direct_call outer.now.types outer.now.symbols table.now callee.now arguments.now) }
+    ensures { Gives (λ op. op) result (direct_call outer.now.types outer.now.symbols table.now callee.now arguments.now bytes.now) }
 {
-    let target = named_target(outer.alloc, &outer.symbols, callee)?;
+    let target = symbol_of(&outer.symbols, callee.left, bytes)?;
     let number = callee_number(callee.left, target)?;
     let all = typed_list(outer, table, arguments)?;
     Ok(Op::Call(number, all))
@@ -196,6 +207,22 @@ fn own_call(
     }
 }
 
+#[tactic(auto, unfolding(crate::specs::Instructions::named_call))]
+fn named_call(
+    outer: &Outer,
+    table: &Table,
+    callee: &Name,
+    arguments: &[Typed],
+    bytes: &[u8],
+) -> Result<Op, Fault>
+    ensures { Gives (λ op. op) result (named_call outer.now.types outer.now.symbols table.now callee.now arguments.now bytes.now) }
+{
+    if bytes.starts_with(b"llvm.") {
+        return own_call(outer, table, callee, arguments, built_in_of(bytes));
+    }
+    direct_call(outer, table, callee, arguments, bytes)
+}
+
 #[tactic(auto, unfolding(crate::specs::Instructions::call))]
 fn call(
     outer: &Outer,
@@ -209,11 +236,8 @@ fn call(
     if is_local {
         return Err(Fault::LeftOut(callee.left));
     }
-    if callee.bytes.as_slice().starts_with(b"llvm.") {
-        let named = built_in_of(callee.bytes.as_slice());
-        return own_call(outer, table, callee, arguments, named);
-    }
-    direct_call(outer, table, callee, arguments)
+    let bytes = bytes_of(outer.alloc, callee)?;
+    named_call(outer, table, callee, arguments, bytes.as_slice())
 }
 
 fn returned_type(outer: &Outer, ret: Ty, given: &[TypeNode]) -> Result<bool, Fault>

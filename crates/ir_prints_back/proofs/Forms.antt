@@ -1,6 +1,6 @@
 -- A module whose parts fit is written as a text of the grammar.
-use Rattle.std.proofs.Common.{◌≡◌, ℕ, ◌+◌, ◌*◌, ◌<◌, ◌≤◌, Bool, true, false, List, [], ◌∷◌, ◌++◌, Some, None, map, length, refl, sym, ◌∙◌, ap, subst, arith, append-nil, length-append}
-use Rattle.std.specs.Prelude.{◌&&◌, nat_eq, sum_by, slice_get, codes, decimal}
+use Rattle.std.proofs.Common.{◌≡◌, ℕ, ◌+◌, ◌*◌, ◌/◌, ◌%◌, ◌<◌, ◌≤◌, Bool, true, false, List, [], ◌∷◌, ◌++◌, Some, None, map, length, refl, sym, ◌∙◌, ap, subst, arith, append-nil, length-append}
+use Rattle.std.specs.Prelude.{◌&&◌, ◌||◌, nat_eq, sum_by, slice_get, codes, decimal, if◌then◌else◌}
 use Rattle.std.specs.List.{starts_with, list_all, flat_map}
 use Rattle.std.proofs.lemmas.List.Sums.{sum_by-cons}
 use Rattle.ir_text.specs.Form.{most_turns}
@@ -25,7 +25,7 @@ use Rattle.ir_core.specs.Layout.{is_memory_width}
 use Rattle.ir_tree.specs.Instructions.{is_dropped_name}
 use Rattle.ir_core.specs.Units.{results, has_result}
 use Rattle.ir_core.specs.declared.code.Operand.{Operand}
-use Rattle.ir_page.specs.Names.{name_text}
+use Rattle.ir_page.specs.Names.{is_bare, is_numeral, is_plain, hexadecimal_digit, quoted_byte, name_text}
 use Rattle.ir_print.specs.Types.{comma, listed, ty_text, opening_of, ending_of, memory_text}
 use Rattle.ir_print.specs.Values.{list_text, init_text}
 use Rattle.ir_print.specs.Instructions.{function_of, incoming_text, result_text, op_text, inst_text}
@@ -59,6 +59,33 @@ longer (y ∷ name) (x ∷ front) rest e = by (nat_eq x y) (longer name front re
 kept : (name : List ℕ) → starts_with nat_eq name (codes "llvm.") ≡ false → is_dropped_name name ≡ false
 kept name e =
     rw (longer name (codes "llvm.") (codes "lifetime.") e, longer name (codes "llvm.") (codes "dbg.") e, longer name (codes "llvm.") (codes "assume") e, longer name (codes "llvm.") (codes "experimental.noalias.scope.decl") e) refl
+
+-- none of these bytes is a backslash
+abbrev HasNoEscape : List ℕ → Type 0
+HasNoEscape [] = Unit {0}
+HasNoEscape (x ∷ xs) = (nat_eq x 92 ≡ false) × HasNoEscape xs
+
+-- what doesn't begin so doesn't in quotes either
+quoted_front : (name front : List ℕ) → HasNoEscape front → starts_with nat_eq name front ≡ false → starts_with nat_eq (flat_map quoted_byte name) front ≡ false
+quoted_front name [] plain e = absurd cc
+quoted_front [] (x ∷ front) plain e = refl
+quoted_front (y ∷ name) (x ∷ front) plain e = by (is_plain y) (one (nat_eq x y) (quoted_front name front plain.1) e)
+  where
+    one : (c : Bool) → (starts_with nat_eq name front ≡ false → starts_with nat_eq (flat_map quoted_byte name) front ≡ false) → (c && starts_with nat_eq name front) ≡ false → (c && starts_with nat_eq (flat_map quoted_byte name) front) ≡ false
+    one true deeper h = deeper h
+    one false deeper h = refl
+
+    by : (b : Bool) → (nat_eq x y && starts_with nat_eq (flat_map quoted_byte name) front) ≡ false → starts_with nat_eq ((if b then y ∷ [] else 92 ∷ hexadecimal_digit (y / 16) ∷ hexadecimal_digit (y % 16) ∷ []) ++ flat_map quoted_byte name) (x ∷ front) ≡ false
+    by true same = same
+    by false same = rw plain.0 refl
+
+-- nor as it is written
+written_front : (name : List ℕ) → starts_with nat_eq name (codes "llvm.") ≡ false → starts_with nat_eq (written_of name) (codes "llvm.") ≡ false
+written_front name e = by (is_bare name || is_numeral name)
+  where
+    by : (b : Bool) → starts_with nat_eq (if b then name else flat_map quoted_byte name) (codes "llvm.") ≡ false
+    by true = e
+    by false = quoted_front name (codes "llvm.") (refl, (refl, (refl, (refl, (refl, tt))))) e
 
 -- ---- operations
 
@@ -132,7 +159,7 @@ operation_written m counts entry ret gives (ops.Alloca ty count) long few f h = 
 operation_written m counts entry ret gives (ops.Load a) long few f h = tt
 operation_written m counts entry ret gives (ops.Store ty a b) long few f h = tt
 operation_written m counts entry ret gives (ops.Gep ty base all) long few f h = (f.1.0.1.0, (h, few))
-operation_written m counts entry ret gives (ops.Call callee all) long few f h = (kept (written_of (function_of (slice_get m.functions callee))) f.1.1.0, few)
+operation_written m counts entry ret gives (ops.Call callee all) long few f h = (kept (written_of (function_of (slice_get m.functions callee))) (written_front (function_of (slice_get m.functions callee)) f.1.1.0), few)
 operation_written m counts entry ret gives (ops.BuiltIn which all) long few f h = few
 operation_written m counts entry ret gives (ops.Ret None) long few f h = tt
 operation_written m counts entry ret gives (ops.Ret (Some a)) long few f h = has_values ret f.1.0

@@ -221,7 +221,7 @@ block_known named n k b name knows lt is =
 -- what the names of globals and functions stand for
 pub record Symbolic (m : Module) (symbols : Symbols) : Type 0 where
   pub global : (k : ℕ) (name : Name) → k < length m.globals → IsNameOf (global_of (slice_get m.globals k)) name → named_target symbols name ≡ Ok (targets.Global k)
-  pub function : (k : ℕ) (name : Name) → k < length m.functions → IsNameOf (function_of (slice_get m.functions k)) name → named_target symbols name ≡ Ok (targets.Function k)
+  pub function : (k : ℕ) (name : Name) → k < length m.functions → IsNameOf (function_of (slice_get m.functions k)) name → (bytes_of name ≡ Ok (function_of (slice_get m.functions k))) × (target_named (function_of (slice_get m.functions k)) symbols ≡ Some (targets.Function k))
 
 known_in : (m : Module) (symbols : Symbols) (one : Function) (named : Entries) → Symbolic m symbols → Knows named (length one.params + results_in one.blocks) (length one.blocks) → Known m symbols (table_of named) (counts_of m one)
 known_in m symbols one named symbolic knows =

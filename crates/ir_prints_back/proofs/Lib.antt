@@ -1,11 +1,11 @@
 mod Digits
-mod Named
+pub mod Named
 mod Operands
 mod Operations
-mod Memory
+pub mod Memory
 mod Addresses
 mod Functions
 mod Same
-mod Inits
+pub mod Inits
 mod Modules
 mod Forms

@@ -8,7 +8,7 @@ use Rattle.ir_text.specs.declared.name.Number.{Number}
 use Rattle.ir_core.specs.declared.types.TheConstants.{MAX_WIDTH}
 use Rattle.ir_core.specs.declared.types.MemTy.{MemTy, Int, Ptr, roll-MemTy, fold-roll-MemTy}
 use Rattle.ir_core.specs.declared.types.MemTy.TheFolds.{map-MemTy}
-use Rattle.ir_core.specs.declared.types.MemTy.TheVariants.{Array, Struct, rolls-Int, rolls-Array, rolls-Struct}
+use Rattle.ir_core.specs.declared.types.MemTy.TheVariants.{Array, Struct, rolls-Int, rolls-Ptr, rolls-Array, rolls-Struct}
 use Rattle.ir_core.specs.declared.types.MemTy.TheOpen as layer
 use Rattle.ir_core.specs.Layout.{Measure, is_memory_width, measure}
 use Rattle.ir_core.proofs.Layouts.{measure-Int, measure-Ptr, measure-Array, measure-Struct}
@@ -40,6 +40,9 @@ fits_by ty y e = ap fits_memory e ∙ fold-roll-MemTy Bool fits_step y
 
 pub fits_int : (w : ℕ) → fits_memory (Int w) ≡ is_memory_width w
 fits_int w = fits_by (Int w) (layer.Int w) (sym (rolls-Int w))
+
+pub fits_ptr : fits_memory Ptr ≡ true
+fits_ptr = fits_by Ptr layer.Ptr (sym rolls-Ptr)
 
 pub fits_array : (count : ℕ) (element : MemTy) → fits_memory (Array count element) ≡ (nat_lt count (2 ^ 64) && fits_memory element)
 fits_array count element = fits_by (Array count element) (layer.Array count element) (sym (rolls-Array count element))

@@ -128,7 +128,7 @@ symbolic m fits =
           let named = subst (λ (o : Option Function). IsNameOf (function_of o) name) p.is is in
           let bytes = name_says p.item.name name (each_at (FitsFunction m) m.functions k p.item fits.functions p.is).name named in
           let at : slice_get (function_entries 0 m.functions) k ≡ Some (p.item.name, targets.Function k) = (let same : 0 + k ≡ k = omega arith in function_entry m.functions 0 k p.item p.is ∙ ap (λ (n : ℕ). Some (p.item.name, targets.Function n)) same) in
-          target_says (symbols_in m) p.item.name name (targets.Function k) bytes (all_found (global_entries 0 m.globals) (function_entries 0 m.functions) k p.item.name (targets.Function k) fits.function_names at);
+          rw p.is (bytes, all_found (global_entries 0 m.globals) (function_entries 0 m.functions) k p.item.name (targets.Function k) fits.function_names at);
     }
 
 -- ---- globals and functions

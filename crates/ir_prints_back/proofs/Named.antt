@@ -12,7 +12,7 @@ use Rattle.ir_names.specs.declared.tables.Target.{Target}
 use Rattle.ir_names.specs.declared.tables.Target.TheVariants as targets
 use Rattle.ir_names.specs.Tables.{target_named, put_named}
 use Rattle.ir_types.specs.Names.{Symbols, bytes_of, named_target}
-use Rattle.ir_page.specs.Names.{name_text}
+use Rattle.ir_page.specs.Names.{is_bare, name_text}
 use Rattle.ir_print.proofs.NamesBack.{globals_back}
 use Rattle.ir_round_trip.specs.Trees.{spelling_of, written_of, IsNameOf}
 use Rattle.ir_round_trip.proofs.NamesHere.{global_token}
@@ -48,6 +48,10 @@ written_says name all =
 pub name_says : (name : List ℕ) (given : Name) → AreBytes name → IsNameOf name given → bytes_of given ≡ Ok name
 unfolding bytes_of
 name_says name given all is = rw (is.0, is.1, written_says name all) refl
+
+pub bare_says : (name : List ℕ) (given : Name) → is_bare name ≡ true → IsNameOf name given → bytes_of given ≡ Ok name
+unfolding bytes_of
+bare_says name given bare is = rw (is.0, is.1, bare) refl
 
 -- ---- lists in which each name is new
 

@@ -1,5 +1,5 @@
 -- Trees of printed types and operands say what was printed.
-use Rattle.std.proofs.Common.{◌≡◌, ℕ, ◌^◌, ◌<◌, ◌≤◌, Bool, true, false, List, slice_get, refl, sym, subst, arith}
+use Rattle.std.proofs.Common.{◌≡◌, ℕ, ◌^◌, ◌<◌, ◌≤◌, Bool, true, false, List, Some, slice_get, refl, sym, subst, arith}
 use Rattle.std.specs.Prelude.{◌==◌, ◌&&◌, nat_eq, nat_le, decimal, Ok}
 use Rattle.ir_text.specs.declared.name.Name.{Name}
 use Rattle.ir_core.specs.declared.types.TheConstants.{MAX_WIDTH}
@@ -16,7 +16,8 @@ use Rattle.ir_values.specs.declared.tree.Typed.{Typed}
 use Rattle.ir_names.specs.declared.tables.Target.TheVariants as targets
 use Rattle.ir_names.specs.Numbers.{natural}
 use Rattle.ir_types.specs.declared.names.Table.{Table}
-use Rattle.ir_types.specs.Names.{Symbols, named_target}
+use Rattle.ir_names.specs.Tables.{target_named}
+use Rattle.ir_types.specs.Names.{Symbols, bytes_of, named_target}
 use Rattle.ir_types.specs.Parts.{width_of}
 use Rattle.ir_types.specs.Types.{value_part, type_of}
 use Rattle.ir_constants.specs.Addresses.{address}
@@ -49,7 +50,7 @@ pub record Known (m : Module) (symbols : Symbols) (table : Table) (counts : Coun
   pub value : (v : ℕ) (name : Name) → v < counts.values → IsValueName v name → local_operand table name ≡ Ok (operands.Value v)
   pub block : (k : ℕ) (name : Name) → k < counts.blocks → IsBlockName k name → block_of table name ≡ Ok k
   pub global : (k : ℕ) (name : Name) → k < counts.globals → IsNameOf (global_of (slice_get m.globals k)) name → named_target symbols name ≡ Ok (targets.Global k)
-  pub function : (k : ℕ) (name : Name) → k < counts.functions → IsNameOf (function_of (slice_get m.functions k)) name → named_target symbols name ≡ Ok (targets.Function k)
+  pub function : (k : ℕ) (name : Name) → k < counts.functions → IsNameOf (function_of (slice_get m.functions k)) name → (bytes_of name ≡ Ok (function_of (slice_get m.functions k))) × (target_named (function_of (slice_get m.functions k)) symbols ≡ Some (targets.Function k))
 
 -- the address of a global and an offset
 abbrev pub SaysAddress : Module → Symbols → ℕ → Type 0

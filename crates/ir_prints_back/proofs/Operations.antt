@@ -41,17 +41,18 @@ use Rattle.ir_instructions.specs.declared.lists.IncomingList.{IncomingList}
 use Rattle.ir_instructions.specs.declared.lists.CaseList.{CaseList}
 use Rattle.ir_instructions.specs.BuiltIns.{width_of_digits, width_behind, memory_named, integer_named, built_in_of, is_of_memory, measured, has_width, quiet_value, quiet_argument, quiet}
 use Rattle.ir_instructions.specs.Counts.{small_aligns, item_count}
-use Rattle.ir_instructions.specs.Instructions.{result_type, typed_step, typed_list, incoming_step, incoming_list, case_value, case_step, case_list, binary, comparison, cast, selection, freezing, phi, loading, storing, direct_call, built_in_call, call, returning, ret, fork, switching, alloca, gep, operation}
+use Rattle.ir_instructions.specs.Instructions.{result_type, typed_step, typed_list, incoming_step, incoming_list, case_value, case_step, case_list, binary, comparison, cast, selection, freezing, phi, loading, storing, direct_call, built_in_call, named_call, call, returning, ret, fork, switching, alloca, gep, operation}
 use Rattle.ir_core.specs.Units.{parts_in}
 use Rattle.ir_functions.specs.Functions.{parts_of}
 use Rattle.ir_print.specs.Instructions.{width_of_length, width_of_value, built_in_front, built_in_width, built_in_text, function_of}
-use Rattle.ir_round_trip.specs.Trees.{written_of, IsNameOf, IsBlockName, IsTyTree, IsMemoryTree, IsOperandTree, IsTypedTree}
+use Rattle.ir_round_trip.specs.Trees.{IsNameOf, IsBlockName, IsTyTree, IsMemoryTree, IsOperandTree, IsTypedTree}
 use Rattle.ir_round_trip.specs.Instructions.{AreTrees, IsIncomingTree, IsArgumentTree, IsCaseTree, IsCountTree, IsOperationTree}
 use Rattle.ir_round_trip.proofs.Tokens.{decimal_digits}
 use Rattle.ir_module_trees.specs.Written.{Each}
-use Rattle.ir_module_trees.proofs.LinesBack.{bare_written, built_bare}
+use Rattle.ir_module_trees.proofs.LinesBack.{built_bare}
 use Rattle.ir_prints_back.specs.Fits.{Counts, FitsTy, IsNoVoid, FitsOperand, FitsTyped, FitsMemory, IsOwnName, FitsArgument, EndsQuietly, HasLength, HasFirst, FitsBuiltIn, FitsIncoming, FitsCase, FitsOperation, no_types}
 use Rattle.ir_prints_back.proofs.Digits.{natural_says, count_says}
+use Rattle.ir_prints_back.proofs.Named.{bare_says}
 use Rattle.ir_prints_back.proofs.Operands.{Known, SaysAddress, type_says, operand_says, typed_says, typed_as_says, same_ty}
 
 -- ---- lists
@@ -193,10 +194,6 @@ built_in_says built.UMax all fits = let w = value_width all fits in record { is 
 built_in_says built.UMin all fits = let w = value_width all fits in record { is = integer_says built.UMin (width_of_value all) refl w.0.0 w.0.1; width = w.1; own = refl }
 built_in_says built.Abs all fits = let w = value_width all fits in record { is = integer_says built.Abs (width_of_value all) refl w.0.0 w.0.1; width = w.1; own = refl }
 
--- the written bytes of a built-in's name are itself
-built_in_bytes : (which : BuiltIn) (all : List (Ty × Operand)) → written_of (built_in_text which all) ≡ built_in_text which all
-built_in_bytes which all = bare_written (built_in_text which all) (built_bare which all)
-
 -- what a printed type of memory says
 abbrev pub SaysMemory : Type 0
 SaysMemory = (ty : MemTy) (parts : List TypeNode) → FitsMemory ty → IsMemoryTree parts ty [] → memory no_types parts ≡ Ok ty
@@ -306,20 +303,18 @@ module _ (m : Module) (symbols : Symbols) (table : Table) (counts : Counts) (kno
 
   call_said : (ret gives : Ty) (entry : Bool) (callee : ℕ) (all : List (Ty × Operand)) (ty : List TypeNode) (name : Name) (given : List Typed) → FitsTy gives → callee < counts.functions → IsOwnName (function_of (slice_get m.functions callee)) → Each (FitsArgument counts) all
       → IsTyTree gives ty → IsNameOf (function_of (slice_get m.functions callee)) name → AreTrees (IsArgumentTree m.globals) all given → Said ret gives entry (ops.Call callee all) (operations.Call ty false name given)
-  unfolding result_type operation call direct_call
+  unfolding result_type operation call named_call direct_call
   call_said ret gives entry callee all ty name given f lt own h is js ks =
-      let other : starts_with nat_eq name.bytes (codes "llvm.") ≡ false = ap (λ (x : List ℕ). starts_with nat_eq x (codes "llvm.")) js.1 ∙ own in
-      record { result = type_says gives ty f is; says = rw other (rw (known.function callee name lt js, arguments_say all given h ks) refl) }
+      let named = known.function callee name lt js in
+      record { result = type_says gives ty f is; says = rw named.0 (rw own (rw (named.1, arguments_say all given h ks) refl)) }
 
   built_said : (ret gives : Ty) (entry : Bool) (which : BuiltIn) (all : List (Ty × Operand)) (ty : List TypeNode) (name : Name) (given : List Typed) → FitsTy gives → FitsBuiltIn which all → Each (FitsArgument counts) all
       → IsTyTree gives ty → IsNameOf (built_in_text which all) name → AreTrees (IsArgumentTree m.globals) all given → Said ret gives entry (ops.BuiltIn which all) (operations.Call ty false name given)
-  unfolding result_type operation call built_in_call
+  unfolding result_type operation call named_call built_in_call
   built_said ret gives entry which all ty name given f fits h is js ks =
       let said = built_in_says which all fits in
-      let bytes : name.bytes ≡ built_in_text which all = js.1 ∙ built_in_bytes which all in
-      let own : starts_with nat_eq name.bytes (codes "llvm.") ≡ true = ap (λ (x : List ℕ). starts_with nat_eq x (codes "llvm.")) bytes ∙ said.own in
-      let found : built_in_of name.bytes ≡ Some (named which (built_in_width which all)) = ap built_in_of bytes ∙ said.is in
-      record { result = type_says gives ty f is; says = rw (own, found) (rw (arguments_say all given h ks, quiet_says m which all given name.left fits ks, said.width) refl) }
+      let bytes = bare_says (built_in_text which all) name (built_bare which all) js in
+      record { result = type_says gives ty f is; says = rw bytes (rw (said.own, said.is) (rw (arguments_say all given h ks, quiet_says m which all given name.left fits ks, said.width) refl)) }
 
   some_not_void : (ty : Ty) → IsNoVoid ty → is_ty ty values.Void ≡ false
   some_not_void values.Void some = absurd some

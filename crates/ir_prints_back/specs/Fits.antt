@@ -24,7 +24,6 @@ use Rattle.ir_core.specs.Layout.{is_memory_width, measure}
 use Rattle.ir_limits.specs.Limits.{measured, capped_passing}
 use Rattle.ir_print.specs.Instructions.{function_of}
 use Rattle.ir_words.specs.Operators.{samesign_flag}
-use Rattle.ir_round_trip.specs.Trees.{written_of}
 use Rattle.ir_round_trip.specs.Operators.{allowed_of, allowed_of_cast, masked}
 use Rattle.ir_names.specs.declared.tables.Target.{Target}
 use Rattle.ir_names.specs.declared.tables.Target.TheVariants as targets
@@ -92,9 +91,9 @@ fits_memory = fold-MemTy Bool fits_step
 abbrev pub FitsMemory : MemTy → Type 0
 FitsMemory ty = (fits_memory ty ≡ true) × (((measure ty).nodes ≤ 4096) × (capped_passing (measured ty).passing ≡ None))
 
--- a name that none of LLVM's own has
+-- a name that isn't one of LLVM's own
 abbrev pub IsOwnName : List ℕ → Type 0
-IsOwnName name = starts_with nat_eq (written_of name) (codes "llvm.") ≡ false
+IsOwnName name = starts_with nat_eq name (codes "llvm.") ≡ false
 
 abbrev pub FitsArgument : Counts → Ty × Operand → Type 0
 FitsArgument counts argument = FitsTyped counts argument.0 argument.1

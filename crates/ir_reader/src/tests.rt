@@ -150,6 +150,18 @@ fn refusals(rt: HostRuntime) {
     assert!(rt;
         answer(
             alloc,
+            b"define void @llvm.f() {\ncall void @\"ll\\76m.f\"()\nret void\n}"
+        ) == (b'l', 34)
+    );
+    assert!(rt;
+        answer(
+            alloc,
+            b"define i8 @f() {\n%b = call i8 @\"llvm.smax\\2Ei8\"(i8 1, i8 2)\nret i8 %b\n}"
+        ) == (b'm', 1)
+    );
+    assert!(rt;
+        answer(
+            alloc,
             b"define i64 @f(i64 %a) {\n%b = call i64 @llvm.smax.i32(i64 %a, i64 0)\nret i64 %b\n}"
         ) == (b'n', 38)
     );
