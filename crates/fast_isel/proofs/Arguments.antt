@@ -1,5 +1,5 @@
 -- The code that enters an activation stores its arguments, cut to their widths; and that behind a call stores the answer.
-use Rattle.std.proofs.Common.{◌≡◌, ◌≢◌, refl, sym, ap, subst, ◌∙◌, ℕ, zero, suc, ◌+◌, ◌*◌, ◌%◌, ◌^◌, ◌<◌, ◌≤◌, ◌⊎◌, inl, inr, List, [], ◌∷◌, ◌++◌, length, Some, None, Bool, true, cond, arith}
+use Rattle.std.proofs.Common.{◌≡◌, ◌≢◌, refl, sym, ap, subst, ◌∙◌, ℕ, zero, suc, ◌+◌, ◌*◌, ◌%◌, ◌^◌, ◌<◌, ◌≤◌, ◌⊎◌, inl, inr, List, [], ◌∷◌, ◌++◌, length, Some, None, Bool, true, cond, arith, append_assoc}
 use Rattle.std.specs.Prelude.{map, slice_get, slice_set}
 use Rattle.std.proofs.Math.Pow.{pow_mono}
 use Rattle.std.proofs.lemmas.Nat.{pow_pos}
@@ -29,23 +29,26 @@ use Rattle.fast_isel.specs.Code.{argument_reg, store_value}
 use Rattle.fast_isel.specs.Narrow.{zero_extended}
 use Rattle.fast_isel.specs.Blocks.{arguments_code, answer_code}
 use Rattle.fast_isel.proofs.Const.{put, read-put}
-use Rattle.fast_isel.proofs.Frame.{Is, Holds, scratch-argument, argument-number, other-register, hold-put, hold-store, stored_point, store-goes}
-use Rattle.fast_isel.proofs.Body.{Reads}
+use Rattle.fast_isel.proofs.Frame.{Is, Holds, scratch-argument, argument-number, hold-put, hold-store, store-goes}
+use Rattle.fast_isel.proofs.Slots.{store-short, other-register}
+use Rattle.fast_isel.proofs.Refines.{Reads}
 use Rattle.fast_isel.proofs.Cuts.{cut-puts, cut-short}
 use Rattle.fast_isel.proofs.Numbers.{width-small, width-some}
 
-pub arguments-short : (p : ℕ) (tys : List Ty) → length (arguments_code p tys) ≤ 3 * length tys
+pub arguments-short : (p : ℕ) (tys : List Ty) → length (arguments_code p tys) ≤ 5 * length tys
 arguments-short p [] = omega arith
 arguments-short p (ty ∷ tys) =
     let one = cut-short (width ty) (argument_reg p) in
     let rest = arguments-short (p + 1) tys in
-    let all = length-append (zero_extended (width ty) (argument_reg p)) (store_value (argument_reg p) p ∷ arguments_code (p + 1) tys) in
-    omega (arith, one, rest, all)
+    let all = length-append (zero_extended (width ty) (argument_reg p)) (store_value (argument_reg p) p ++ arguments_code (p + 1) tys) in
+    let more = length-append (store_value (argument_reg p) p) (arguments_code (p + 1) tys) in
+    let short = store-short (argument_reg p) (32 * p) in
+    omega (arith, one, rest, all, more, short)
 
-pub answer-short : (gives : Ty) (number : ℕ) → length (answer_code gives number) ≤ 3
+pub answer-short : (gives : Ty) (number : ℕ) → length (answer_code gives number) ≤ 5
 answer-short Void number = omega arith
-answer-short (Int w) number = let one = cut-short w A0 in let all = length-append (zero_extended w A0) (store_value A0 number ∷ []) in omega (arith, one, all)
-answer-short Ptr number = omega arith
+answer-short (Int w) number = let one = cut-short w A0 in let all = length-append (zero_extended w A0) (store_value A0 number) in let short = store-short A0 (32 * number) in omega (arith, one, all, short)
+answer-short Ptr number = let short = store-short A0 (32 * number) in omega (arith, short)
 
 -- cut to its width a register holds the value
 value-is : (w n : ℕ) (value : Value) → RefinesValue w value n → Is value (n % 2 ^ w)
@@ -77,35 +80,37 @@ module _ (a : Invocation) (s : Machine) (low frame : ℕ) (m : Meaning) (functio
   -- a register is cut and stored
   record Kept (w : ℕ) (rd : Reg) (d : ℕ) (values : List Value) (value : Value) (here : Memory) (p : Point) : Type 0 where
     point : Point
-    run : Runs (length (zero_extended w rd) + 1) p point
-    pc : point.machine.regs.pc ≡ p.machine.regs.pc + 4 * (length (zero_extended w rd) + 1)
+    run : Runs (length (zero_extended w rd) + length (store_value rd d)) p point
+    pc : point.machine.regs.pc ≡ p.machine.regs.pc + 4 * (length (zero_extended w rd) + length (store_value rd d))
     holds : Held (slice_set values d value) here point
     control : point.machine.control ≡ store_bytes p.machine.control (low + 32 * d) 8 (p.machine.regs.x (number_of rd) % 2 ^ w)
-    others : (j : ℕ) → j ≢ number_of rd → point.machine.regs.x j ≡ p.machine.regs.x j
+    others : (j : ℕ) → j ≢ number_of rd → j ≢ 31 → point.machine.regs.x j ≡ p.machine.regs.x j
 
-  keep : (w place' d : ℕ) (values : List Value) (value : Value) (here : Memory) (p : Point) → place' < 8 → 1 ≤ w → w ≤ 64 → 32 * d + 16 ≤ frame → p.machine.regs.x (number_of (argument_reg place')) < 2 ^ 64
+  keep : (w place' d : ℕ) (values : List Value) (value : Value) (here : Memory) (p : Point) → place' < 8 → 1 ≤ w → w ≤ 64 → 32 * d + 112 ≤ frame → p.machine.regs.x (number_of (argument_reg place')) < 2 ^ 64
       → Is value (p.machine.regs.x (number_of (argument_reg place')) % 2 ^ w) → ((k : ℕ) → value ≡ Some k → k < 2 ^ 64) → Held values here p
-      → Stands place p.machine.regs.pc (zero_extended w (argument_reg place') ++ store_value (argument_reg place') d ∷ []) → Kept w (argument_reg place') d values value here p
+      → Stands place p.machine.regs.pc (zero_extended w (argument_reg place') ++ store_value (argument_reg place') d) → Kept w (argument_reg place') d values value here p
   keep w place' d values value here p few one most inside small is fits h st =
       let rd : Reg = argument_reg place' in
       let scratch = scratch-argument place' few in
       let c0 : List Instr = zero_extended w rd in
-      let c1 : List Instr = store_value rd d ∷ [] in
+      let c1 : List Instr = store_value rd d in
       let parts = stands-apart place p.machine.regs.pc c0 c1 st in
       let n : ℕ = p.machine.regs.x (number_of rd) % 2 ^ w in
       let cut = cut-puts m functions place lowb highb w rd p one most scratch.0 small parts.0 in
       let p0 : Point = put p rd n (length c0) in
       let h0 = hold-put a s low frame values here p rd n (length c0) scratch h in
-      let run1 = store-goes a s low frame m functions room place lowb highb bottom top values here p0 rd d inside h0 parts.1 in
+      let number = argument-number place' few in
+      let save = store-goes a s low frame m functions room place lowb highb bottom top values here p0 rd d (λ z. let bad : ⊥ = omega (arith, z, number, few) in bad) (omega (arith, inside)) h0 parts.1 in
       let reads : read p0.machine.regs rd ≡ n = read-put m functions place lowb highb p rd n (length c0) scratch.0 in
-      let q : Point = stored_point a s low frame p0 d (read p0.machine.regs rd) in
+      let q : Point = save.point in
+      let save-pc = save.pc in
       record {
         point = q;
-        run = goes-then m functions place lowb highb (length c0) 1 p p0 q cut run1;
-        pc = omega arith;
-        holds = hold-store a s low frame values here p0 d (read p0.machine.regs rd) value inside (λ k e. reads ∙ is k e) fits h0;
-        control = ap (λ (x : ℕ). store_bytes p.machine.control (low + 32 * d) 8 x) reads;
-        others = λ j ne. other-register p.machine.regs.x (number_of rd) j n ne;
+        run = goes-then m functions place lowb highb (length c0) (length c1) p p0 q cut save.run;
+        pc = omega (arith, save-pc);
+        holds = hold-store a s low frame values here p0 q d (read p0.machine.regs rd) value save.alters inside (λ k e. reads ∙ is k e) fits h0;
+        control = save.alters.control ∙ ap (λ (x : ℕ). store_bytes p.machine.control (low + 32 * d) 8 x) reads;
+        others = λ j ne last. save.alters.others j last ∙ other-register p.machine.regs.x (number_of rd) j n ne;
       }
 
   -- ---- an answer
@@ -116,11 +121,11 @@ module _ (a : Invocation) (s : Machine) (low frame : ℕ) (m : Meaning) (functio
     pub pc : point.machine.regs.pc ≡ p.machine.regs.pc + 4 * length (answer_code gives d)
     pub holds : Held (cond (is_result gives) (slice_set values d value) values) here point
 
-  answer-kept : (gives : Ty) (d : ℕ) (values : List Value) (value : Value) (here : Memory) (p : Point) → is_result gives ≡ true → answer_code gives d ≡ zero_extended (width gives) A0 ++ store_value A0 d ∷ []
+  answer-kept : (gives : Ty) (d : ℕ) (values : List Value) (value : Value) (here : Memory) (p : Point) → is_result gives ≡ true → answer_code gives d ≡ zero_extended (width gives) A0 ++ store_value A0 d
       → Kept (width gives) A0 d values value here p → Answered gives d values value here p
   answer-kept gives d values value here p result same k =
       let at = k.pc in
-      let count : length (zero_extended (width gives) A0) + 1 ≡ length (answer_code gives d) = (let all = length-append (zero_extended (width gives) A0) (store_value A0 d ∷ []) in let is = ap length same in omega (arith, all, is)) in
+      let count : length (zero_extended (width gives) A0) + length (store_value A0 d) ≡ length (answer_code gives d) = (let all = length-append (zero_extended (width gives) A0) (store_value A0 d) in let is = ap length same in omega (arith, all, is)) in
       record {
         point = k.point;
         run = subst (λ (j : ℕ). Runs j p k.point) count k.run;
@@ -129,7 +134,7 @@ module _ (a : Invocation) (s : Machine) (low frame : ℕ) (m : Meaning) (functio
       }
 
   -- the registers are those that the answer was given in
-  pub answer-goes : (gives : Ty) (d : ℕ) (values : List Value) (value : Value) (here : Memory) (p : Point) (t : Registers) → IsResultType gives → (is_result gives ≡ true → 32 * d + 16 ≤ frame) → t.x 10 < 2 ^ 64 → p.machine.regs.x 10 ≡ t.x 10
+  pub answer-goes : (gives : Ty) (d : ℕ) (values : List Value) (value : Value) (here : Memory) (p : Point) (t : Registers) → IsResultType gives → (is_result gives ≡ true → 32 * d + 112 ≤ frame) → t.x 10 < 2 ^ 64 → p.machine.regs.x 10 ≡ t.x 10
       → RefinesResult (result_width gives) value t → FitsResult (result_width gives) value → Held values here p → Stands place p.machine.regs.pc (answer_code gives d) → Answered gives d values value here p
   answer-goes Void d values value here p t is inside small same refines fits h st =
       record { point = p; run = goes-none m functions place lowb highb p; pc = omega arith; holds = h }
@@ -147,7 +152,7 @@ module _ (a : Invocation) (s : Machine) (low frame : ℕ) (m : Meaning) (functio
     pub record Begun (start : ℕ) (p : Point) : Type 0 where
       pub holds : Held [] here p
       pub slots : (i v : ℕ) → i < start → slice_get args i ≡ Some (Some v) → load_bytes p.machine.control (low + 32 * i) 8 ≡ v
-      pub registers : (j : ℕ) → 10 + start ≤ j → p.machine.regs.x j ≡ s.regs.x j
+      pub registers : (j : ℕ) → 10 + start ≤ j → j < 18 → p.machine.regs.x j ≡ s.regs.x j
 
     pub record AllBegun (start : ℕ) (tys : List Ty) (p : Point) : Type 0 where
       pub point : Point
@@ -195,36 +200,33 @@ module _ (a : Invocation) (s : Machine) (low frame : ℕ) (m : Meaning) (functio
         let number = argument-number start (omega (arith, few)) in
         let c0 : List Instr = zero_extended w rd in
         let c1 : List Instr = arguments_code (start + 1) tys in
-        let apart = stands-apart place p.machine.regs.pc (c0 ++ store_value rd start ∷ []) c1 (subst (Stands place p.machine.regs.pc) (split c0 (store_value rd start) c1) st) in
+        let apart = stands-apart place p.machine.regs.pc (c0 ++ store_value rd start) c1 (subst (Stands place p.machine.regs.pc) (sym (append_assoc c0 (store_value rd start) c1)) st) in
         let x : ℕ = p.machine.regs.x (number_of rd) in
         let bound = regs (10 + start) in
-        let is-x : x ≡ s.regs.x (10 + start) = ap p.machine.regs.x number ∙ b.registers (10 + start) (omega arith) in
+        let is-x : x ≡ s.regs.x (10 + start) = ap p.machine.regs.x number ∙ b.registers (10 + start) (omega arith) (omega (arith, few)) in
         let k = keep w start start [] None here p (omega (arith, few)) (width-some ty given.0) (width-small ty given.0) (omega (arith, inside)) (omega (arith, is-x, bound)) (λ j e. absurd (let bad : ⊥ = cc in bad)) (λ j e. absurd (let bad : ⊥ = cc in bad)) b.holds apart.0 in
         let at = k.pc in
-        let len0 = length-append c0 (store_value rd start ∷ []) in
-        let len1 = length-append c0 (store_value rd start ∷ c1) in
-        let pc1 : p.machine.regs.pc + 4 * length (c0 ++ store_value rd start ∷ []) ≡ k.point.machine.regs.pc = omega (arith, at, len0) in
+        let len0 = length-append c0 (store_value rd start) in
+        let len1 = length-append c0 (store_value rd start ++ c1) in
+        let len2 = length-append (store_value rd start) c1 in
+        let pc1 : p.machine.regs.pc + 4 * length (c0 ++ store_value rd start) ≡ k.point.machine.regs.pc = omega (arith, at, len0) in
         let kept : (i v : ℕ) → i < start + 1 → slice_get args i ≡ Some (Some v) → load_bytes k.point.machine.control (low + 32 * i) 8 ≡ v =
         λ i v lt e. ap (λ (c : ℕ → ℕ). load_bytes c (low + 32 * i) 8) k.control ∙ in-slot p start (x % 2 ^ w) i v (order i start (omega (arith, lt))) (λ u f. ap (λ (z : ℕ). z % 2 ^ w) is-x ∙ given.1 u f) (low-bits x w (width-small ty given.0)) b.slots e in
         let next : Begun (start + 1) k.point = record {
           holds = k.holds;
           slots = kept;
-          registers = λ j le. k.others j (λ z. let bad : ⊥ = omega (arith, z, number, le) in bad) ∙ b.registers j (omega (arith, le));
+          registers = λ j le less. k.others j (λ z. let bad : ⊥ = omega (arith, z, number, le) in bad) (λ z. let bad : ⊥ = omega (arith, z, less) in bad) ∙ b.registers j (omega (arith, le)) less;
         } in
         let rest = arguments-go (start + 1) tys k.point (omega (arith, few)) (omega (arith, inside)) given.2 next (subst (λ (pc : ℕ). Stands place pc c1) pc1 apart.1) in
         let rest-pc = rest.pc in
         record {
           point = rest.point;
-          run = subst (λ (j : ℕ). Runs j p rest.point) (let e : length c0 + 1 + length c1 ≡ length (c0 ++ store_value rd start ∷ c1) = omega (arith, len1) in e)
-              (goes-then m functions place lowb highb (length c0 + 1) (length c1) p k.point rest.point k.run rest.run);
-          pc = omega (arith, rest-pc, at, len1);
+          run = subst (λ (j : ℕ). Runs j p rest.point) (let e : length c0 + length (store_value rd start) + length c1 ≡ length (c0 ++ (store_value rd start ++ c1)) = omega (arith, len1, len2) in e)
+              (goes-then m functions place lowb highb (length c0 + length (store_value rd start)) (length c1) p k.point rest.point k.run rest.run);
+          pc = omega (arith, rest-pc, at, len1, len2);
           begun = subst (λ (j : ℕ). Begun j rest.point) (let e : start + 1 + length tys ≡ start + suc (length tys) = omega arith in e) rest.begun;
         }
       where
-        split : (xs : List Instr) (x : Instr) (ys : List Instr) → xs ++ x ∷ ys ≡ (xs ++ x ∷ []) ++ ys
-        split [] x ys = refl
-        split (y ∷ xs) x ys = ap (λ (zs : List Instr). y ∷ zs) (split xs x ys)
-
         low-bits : (x w : ℕ) → w ≤ 64 → x % 2 ^ w < 2 ^ 64
         low-bits x w most = let p = pow_pos w in let wide : 2 ^ w ≤ 2 ^ 64 = pow_mono most in omega (arith, p, wide)
 

@@ -20,7 +20,7 @@ use Rattle.ir_meaning.specs.Memory.{Memory, is_inside, bytes_at, with_bytes, dig
 use Rattle.ir_meaning.specs.Step.{Program}
 use Rattle.ir_meaning.specs.Plays.{Meaning, Invocation}
 use Rattle.ir_meaning.specs.Typed.{IsStored, IsValueType}
-use Rattle.ir_meaning.proofs.Lengths.{to_bytes-length, inside-bounds}
+use Rattle.ir_meaning.proofs.Lengths.{to_bytes-length, with_bytes-length, inside-bounds}
 use Rattle.rv_play.specs.Machine.{Machine, Act, On, Fails, act, loaded, extended, load_size, store_size, in_data, in_control, code_base, code_limit, control_base, control_end, data_base}
 use Rattle.rv_play.specs.CodePlay.{Place, Point}
 use Rattle.rv_play.specs.Good.{RefinesMemory}
@@ -62,30 +62,30 @@ load-is memory f count a low high h = loaded-is memory f count (a - data_base) a
 
 -- ---- bytes behind a store
 
-get-front : (xs ys : Memory) (i : ℕ) → i < length xs → slice_get (xs ++ ys) i ≡ slice_get xs i
+pub get-front : (xs ys : Memory) (i : ℕ) → i < length xs → slice_get (xs ++ ys) i ≡ slice_get xs i
 get-front [] ys i lt = absurd (let bad : ⊥ = omega (arith, lt) in bad)
 get-front (x ∷ xs) ys zero lt = refl
 get-front (x ∷ xs) ys (suc i) lt = get-front xs ys i (omega (arith, lt))
 
-get-back : (xs ys : Memory) (i k : ℕ) → i ≡ length xs + k → slice_get (xs ++ ys) i ≡ slice_get ys k
+pub get-back : (xs ys : Memory) (i k : ℕ) → i ≡ length xs + k → slice_get (xs ++ ys) i ≡ slice_get ys k
 get-back [] ys i k e = ap (slice_get ys) (let z : i ≡ k = omega (arith, e) in z)
 get-back (x ∷ xs) ys zero k e = absurd (let bad : ⊥ = omega (arith, e) in bad)
 get-back (x ∷ xs) ys (suc i) k e = get-back xs ys i k (omega (arith, e))
 
-get-take : (xs : Memory) (n i : ℕ) → i < n → slice_get (take n xs) i ≡ slice_get xs i
+pub get-take : (xs : Memory) (n i : ℕ) → i < n → slice_get (take n xs) i ≡ slice_get xs i
 get-take [] zero i lt = refl
 get-take [] (suc n) i lt = refl
 get-take (x ∷ xs) zero i lt = absurd (let bad : ⊥ = omega (arith, lt) in bad)
 get-take (x ∷ xs) (suc n) zero lt = refl
 get-take (x ∷ xs) (suc n) (suc i) lt = get-take xs n i (omega (arith, lt))
 
-get-drop : (xs : Memory) (n i : ℕ) → slice_get (drop n xs) i ≡ slice_get xs (n + i)
+pub get-drop : (xs : Memory) (n i : ℕ) → slice_get (drop n xs) i ≡ slice_get xs (n + i)
 get-drop [] zero i = refl
 get-drop [] (suc n) i = refl
 get-drop (x ∷ xs) zero i = ap (slice_get (x ∷ xs)) (let z : i ≡ 0 + i = omega arith in z)
 get-drop (x ∷ xs) (suc n) i = get-drop xs n i ∙ ap (slice_get (x ∷ xs)) (let z : suc (n + i) ≡ suc n + i = omega arith in z)
 
-no-byte : (count j b : ℕ) (v : Byte) → v ≡ None → slice_get (replicate count v) j ≡ Some (Some b) → ⊥
+pub no-byte : (count j b : ℕ) (v : Byte) → v ≡ None → slice_get (replicate count v) j ≡ Some (Some b) → ⊥
 no-byte zero j b v e h = let bad : ⊥ = cc in bad
 no-byte (suc count) zero b v e h = let bad : ⊥ = cc in bad
 no-byte (suc count) (suc j) b v e h = no-byte count j b v e h
@@ -285,7 +285,9 @@ module _ (program : Program) (a : Invocation) (s : Machine) (low frame n : ℕ) 
         sp = h.sp;
         slots = h.slots;
         ra = h.ra;
+        aside = h.aside;
         saved = h.saved;
+        data_top = h.data_top ∙ ap (λ (k : ℕ). data_base + k) (sym (with_bytes-length here address (to_bytes count value) (ap (is_inside here address) (to_bytes-length count value) ∙ inside)));
         kept = h.kept;
         memory' = store-refines here p.machine.bytes address count (p.machine.regs.x 5) value b.0 b.1 is h.memory';
         counted = h.counted;

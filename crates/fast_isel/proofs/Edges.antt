@@ -12,26 +12,27 @@ use Rattle.ir_core.specs.declared.code.Inst.{Inst}
 use Rattle.ir_core.specs.declared.program.Function.{Function}
 use Rattle.ir_core.specs.declared.program.Global.{Global}
 use Rattle.ir_core.specs.Units.{has_result, units}
+use Rattle.rv_core.specs.Reg.{number_of}
 use Rattle.rv_core.specs.declared.reg.Reg.{Reg}
-use Rattle.rv_core.specs.declared.reg.Reg.TheVariants.{Sp, T0}
+use Rattle.rv_core.specs.declared.reg.Reg.TheVariants.{T0}
 use Rattle.rv_core.specs.declared.instr.Instr.{Instr}
-use Rattle.rv_core.specs.Bytes.{load_bytes, store_bytes}
+use Rattle.rv_core.specs.Bytes.{load_bytes}
 use Rattle.rv_core.proofs.Bytes.{load_stored, load_outside, store_outside}
-use Rattle.rv_core.specs.Step.{Registers, read}
 use Rattle.ir_meaning.specs.Value.{Value}
 use Rattle.ir_meaning.specs.Memory.{Memory}
 use Rattle.ir_meaning.specs.Step.{Program, operand, number_at, on_edge, phi_value, with_phis, with_result}
 use Rattle.ir_meaning.specs.Plays.{Meaning, Invocation}
-use Rattle.rv_play.specs.Machine.{Machine, On, code_base, code_limit, control_base, control_end}
+use Rattle.rv_play.specs.Machine.{Machine, code_base, code_limit, control_base, control_end}
 use Rattle.rv_play.specs.CodePlay.{Place, Point}
-use Rattle.rv_play.specs.Good.{KeepsRegs, RefinesMemory}
-use Rattle.rv_play.proofs.Lines.{Stands, stands-apart, Goes, goes-then, goes-none, plain-step, moved, next-regs, load-acts, store-acts}
+use Rattle.rv_play.specs.Good.{RefinesMemory}
+use Rattle.rv_play.proofs.Lines.{Stands, stands-apart, Goes, goes-then, goes-none}
 use Rattle.fast_isel.specs.Operations.{IsSlotOperand, value_code}
+use Rattle.fast_isel.specs.Code.{store_value}
 use Rattle.fast_isel.specs.Blocks.{load_next, store_next, next_code, next_of, nexts_code, phis_code}
 use Rattle.fast_isel.specs.Labels.{Hops}
-use Rattle.fast_isel.proofs.Const.{put, write-is}
-use Rattle.fast_isel.proofs.Frame.{Is, Holds, IsScratch, scratch-t0, saved_regs, hold-put, hold-store, stored_point, store-goes}
-use Rattle.fast_isel.proofs.Template.{Through}
+use Rattle.fast_isel.proofs.Const.{put}
+use Rattle.fast_isel.proofs.Slots.{Alters, Saves, loads-at, saves-at, load-short, store-short}
+use Rattle.fast_isel.proofs.Frame.{Is, Holds, IsScratch, scratch-t0, saved_regs, keeps-then, keeps-others, hold-put, hold-store, store-goes}
 use Rattle.fast_isel.proofs.Operations.{value-short, value-brings}
 
 -- what a phi takes from a block
@@ -41,14 +42,21 @@ IsPhiOperand n from _ = Unit {0}
 
 -- ---- lengths
 
-pub next-short : (globals : List Global) (d : ℕ) (o : Operand) → length (next_code globals d o) ≤ 9
-next-short globals d (Local i) = omega arith
-next-short globals d (Num k) = let one = length-append (value_code globals T0 (Num k)) (store_next T0 d ∷ []) in let o = value-short globals T0 (Num k) in omega (arith, one, o)
-next-short globals d Null = let one = length-append (value_code globals T0 Null) (store_next T0 d ∷ []) in let o = value-short globals T0 Null in omega (arith, one, o)
-next-short globals d (PlaceOf g i) = let one = length-append (value_code globals T0 (PlaceOf g i)) (store_next T0 d ∷ []) in let o = value-short globals T0 (PlaceOf g i) in omega (arith, one, o)
+next-sum : (globals : List Global) (d : ℕ) (o : Operand) → length (value_code globals T0 o ++ store_next T0 d) ≤ 11
+next-sum globals d o =
+    let one = length-append (value_code globals T0 o) (store_next T0 d) in
+    let load = value-short globals T0 o in
+    let save = store-short T0 (32 * d + 16) in
+    omega (arith, one, load, save)
+
+pub next-short : (globals : List Global) (d : ℕ) (o : Operand) → length (next_code globals d o) ≤ 11
+next-short globals d (Local i) = next-sum globals d (Local i)
+next-short globals d (Num k) = next-sum globals d (Num k)
+next-short globals d Null = next-sum globals d Null
+next-short globals d (PlaceOf g i) = next-sum globals d (PlaceOf g i)
 next-short globals d Poison = omega arith
 
-next-of-short : (globals : List Global) (d from : ℕ) (op : Op) → length (next_of globals d from op) ≤ 9
+next-of-short : (globals : List Global) (d from : ℕ) (op : Op) → length (next_of globals d from op) ≤ 11
 next-of-short globals d from (Phi pairs) = next-short globals d (on_edge from pairs)
 next-of-short globals d from (Binary op flags a b) = omega arith
 next-of-short globals d from (Icmp pred flags ty a b) = omega arith
@@ -67,9 +75,16 @@ next-of-short globals d from (CondBr c x y) = omega arith
 next-of-short globals d from (Switch ty a otherwise cases) = omega arith
 next-of-short globals d from Unreachable = omega arith
 
-pub phis-length : (function : Function) (to at : ℕ) (insts : List Inst) → length (phis_code function to at insts) ≡ 2 * length insts
-phis-length function to at [] = refl
-phis-length function to at (inst ∷ insts) = let rest = phis-length function to (at + 1) insts in omega (arith, rest)
+pub phis-length : (function : Function) (to at : ℕ) (insts : List Inst) → length (phis_code function to at insts) ≤ 6 * length insts
+phis-length function to at [] = omega arith
+phis-length function to at (inst ∷ insts) =
+    let d = number_at function to at in
+    let rest = phis-length function to (at + 1) insts in
+    let first = load-short T0 (32 * d + 16) in
+    let second = store-short T0 (32 * d) in
+    let one = length-append (load_next T0 d) (store_value T0 d ++ phis_code function to (at + 1) insts) in
+    let two = length-append (store_value T0 d) (phis_code function to (at + 1) insts) in
+    omega (arith, rest, first, second, one, two)
 
 pub units-some : (inst : Inst) → 1 ≤ units inst
 units-some inst = omega arith
@@ -91,11 +106,15 @@ module _ (program : Program) (function : Function) (a : Invocation) (s : Machine
   abbrev globals : List Global
   globals = program.module_.globals
 
+  -- where code has come to, with these values
+  pub record Through (code : List Instr) (values : List Value) (here : Memory) (p : Point) : Type 0 where
+    pub point : Point
+    pub run : Runs (length code) p point
+    pub pc : point.machine.regs.pc ≡ p.machine.regs.pc + 4 * length code
+    pub holds : Held values here point
+
   abbrev pub next-at : Point → ℕ → ℕ
   next-at p d = load_bytes p.machine.control (low + (32 * d + 16)) 8
-
-  abbrev next_point : Point → ℕ → ℕ → Point
-  next_point p d v = moved p (record p.machine { regs = next-regs p.machine; control = store_bytes p.machine.control (low + (32 * d + 16)) 8 v }) p.counted
 
   -- a slot and a next value are apart
   slot-next : (i d : ℕ) → (low + (32 * d + 16) + 8 ≤ low + 32 * i) ⊎ (low + 32 * i + 8 ≤ low + (32 * d + 16))
@@ -119,15 +138,17 @@ module _ (program : Program) (function : Function) (a : Invocation) (s : Machine
       by_order (inl lt) = inl (omega arith)
       by_order (inr le) = inr (let lt : d < i = omega (arith, ne) in omega arith)
 
-  hold-next : (values : List Value) (here : Memory) (p : Point) (d v : ℕ) → d < n → Held values here p → Held values here (next_point p d v)
-  hold-next values here p d v inside h = record {
-    sp = h.sp;
-    slots = λ i x e. load_outside p.machine.control (low + (32 * d + 16)) 8 v (low + 32 * i) 8 (swap i (slot-next i d)) ∙ h.slots i x e;
-    ra = load_outside p.machine.control (low + (32 * d + 16)) 8 v (low + (frame - 8)) 8 (inr (omega (arith, inside, is-frame))) ∙ h.ra;
-    saved = h.saved;
-    kept = λ x le. store_outside p.machine.control (low + (32 * d + 16)) 8 v x (inr (omega (arith, inside, is-frame, le))) ∙ h.kept x le;
-    memory' = h.memory';
-    counted = h.counted;
+  hold-next : (values : List Value) (here : Memory) (p q : Point) (d v : ℕ) → Alters p q (low + (32 * d + 16)) v → d < n → Held values here p → Held values here q
+  hold-next values here p q d v alters inside h = record {
+    sp = alters.others 2 (λ z. omega (arith, z)) ∙ h.sp;
+    slots = λ i x e. ap (λ (c : ℕ → ℕ). load_bytes c (low + 32 * i) 8) alters.control ∙ load_outside p.machine.control (low + (32 * d + 16)) 8 v (low + 32 * i) 8 (swap i (slot-next i d)) ∙ h.slots i x e;
+    ra = ap (λ (c : ℕ → ℕ). load_bytes c (low + (frame - 8)) 8) alters.control ∙ load_outside p.machine.control (low + (32 * d + 16)) 8 v (low + (frame - 8)) 8 (inr (omega (arith, inside, is-frame))) ∙ h.ra;
+    aside = ap (λ (c : ℕ → ℕ). load_bytes c (low + (frame - 104)) 8) alters.control ∙ load_outside p.machine.control (low + (32 * d + 16)) 8 v (low + (frame - 104)) 8 (inr (omega (arith, inside, is-frame))) ∙ h.aside;
+    data_top = alters.others 27 (λ z. omega (arith, z)) ∙ h.data_top;
+    saved = keeps-then saved_regs s.regs p.machine.regs q.machine.regs h.saved (keeps-others p.machine.regs q.machine.regs alters.others);
+    kept = λ x le. ap (λ (c : ℕ → ℕ). c x) alters.control ∙ store_outside p.machine.control (low + (32 * d + 16)) 8 v x (inr (omega (arith, inside, is-frame, le))) ∙ h.kept x le;
+    memory' = subst (λ (b : ℕ → ℕ). RefinesMemory here b) (sym alters.bytes) h.memory';
+    counted = alters.counted ∙ h.counted;
   }
     where
       swap : (i : ℕ) → (low + (32 * d + 16) + 8 ≤ low + 32 * i) ⊎ (low + 32 * i + 8 ≤ low + (32 * d + 16)) → (low + 32 * i + 8 ≤ low + (32 * d + 16)) ⊎ (low + (32 * d + 16) + 8 ≤ low + 32 * i)
@@ -135,23 +156,15 @@ module _ (program : Program) (function : Function) (a : Invocation) (s : Machine
       swap i (inr h) = inl h
 
   -- a register is stored as a next value
-  next-goes : (values : List Value) (here : Memory) (p : Point) (rs : Reg) (d : ℕ) → d < n → Held values here p → Stands place p.machine.regs.pc (store_next rs d ∷ []) → Runs 1 p (next_point p d (read p.machine.regs rs))
-  next-goes values here p rs d inside h st =
-      let bound = st.1 in let base' = st.0 in
-      let at : p.machine.regs.x 2 + (32 * d + 16) ≡ low + (32 * d + 16) = ap (λ (k : ℕ). k + (32 * d + 16)) h.sp in
-      plain-step m functions place lowb highb p (store_next rs d) _ st.2 refl
-      (store-acts m functions place lowb highb room p.machine rs Sp (32 * d + 16) (low + (32 * d + 16)) bound at (omega (arith, bottom), omega (arith, inside, is-frame, top)))
-      (omega (arith, base'))
+  next-goes : (values : List Value) (here : Memory) (p : Point) (rs : Reg) (d : ℕ) → number_of rs ≢ 31 → d < n → Held values here p → Stands place p.machine.regs.pc (store_next rs d)
+      → Saves m functions room place lowb highb low frame bottom top rs (32 * d + 16) p
+  next-goes values here p rs d other inside h st = saves-at m functions room place lowb highb low frame bottom top p rs (32 * d + 16) other h.sp (omega (arith, inside, is-frame)) st
 
   -- a next value is loaded
-  load-next-goes : (values : List Value) (here : Memory) (p : Point) (rd : Reg) (d : ℕ) → IsScratch rd → d < n → Held values here p → Stands place p.machine.regs.pc (load_next rd d ∷ []) → Runs 1 p (put p rd (next-at p d) 1)
+  load-next-goes : (values : List Value) (here : Memory) (p : Point) (rd : Reg) (d : ℕ) → IsScratch rd → d < n → Held values here p → Stands place p.machine.regs.pc (load_next rd d)
+      → Runs (length (load_next rd d)) p (put p rd (next-at p d) (length (load_next rd d)))
   load-next-goes values here p rd d scratch inside h st =
-      let bound = st.1 in let base' = st.0 in
-      let at : p.machine.regs.x 2 + (32 * d + 16) ≡ low + (32 * d + 16) = ap (λ (k : ℕ). k + (32 * d + 16)) h.sp in
-      plain-step m functions place lowb highb p (load_next rd d) _ st.2 refl
-      (load-acts m functions place lowb highb room p.machine rd Sp (32 * d + 16) (low + (32 * d + 16)) bound at (omega (arith, bottom), omega (arith, inside, is-frame, top))
-      ∙ ap (λ (r : Registers). On (record p.machine { regs = r })) (write-is (next-regs p.machine) rd (next-at p d) scratch.0))
-      (omega (arith, base'))
+      loads-at m functions room place lowb highb low frame bottom top p rd (32 * d + 16) scratch.0 (λ x v. (scratch.1 (record { x = x; pc = 0 }) v 0).0) h.sp (omega (arith, inside, is-frame)) st
 
   -- ---- the next values of an edge
 
@@ -168,25 +181,28 @@ module _ (program : Program) (function : Function) (a : Invocation) (s : Machine
   below-is value v x is fits e = λ k h. let same = is k h in let lt = fits k h in omega (arith, same, lt, e)
 
   next-loaded : (o : Operand) (d : ℕ) (values : List Value) (here : Memory) (p : Point) → IsSlotOperand n o → d < n → ((k : ℕ) → operand program values o ≡ Some k → k < 2 ^ 64) → Held values here p
-      → Stands place p.machine.regs.pc (value_code globals T0 o ++ store_next T0 d ∷ []) → Stored (value_code globals T0 o ++ store_next T0 d ∷ []) d (operand program values o) values here p
+      → Stands place p.machine.regs.pc (value_code globals T0 o ++ store_next T0 d) → Stored (value_code globals T0 o ++ store_next T0 d) d (operand program values o) values here p
   next-loaded o d values here p small inside fits h st =
       let c0 : List Instr = value_code globals T0 o in
-      let parts = stands-apart place p.machine.regs.pc c0 (store_next T0 d ∷ []) st in
+      let c1 : List Instr = store_next T0 d in
+      let parts = stands-apart place p.machine.regs.pc c0 c1 st in
       let l0 = value-brings program a s low frame n m functions room place lowb highb bottom top is-frame values here p T0 o scratch-t0 small h parts.0 in
       let p0 : Point = l0.point in
       let pc0 = l0.pc in
       let x : ℕ = p0.machine.regs.x 5 in
-      let run1 = next-goes values here p0 T0 d inside l0.holds (subst (λ (pc : ℕ). Stands place pc (store_next T0 d ∷ [])) (sym pc0) parts.1) in
-      let q : Point = next_point p0 d x in
-      let len = length-append c0 (store_next T0 d ∷ []) in
+      let save = next-goes values here p0 T0 d (λ z. omega (arith, z)) inside l0.holds (subst (λ (pc : ℕ). Stands place pc c1) (sym pc0) parts.1) in
+      let q : Point = save.point in
+      let pc1 = save.pc in
+      let len = length-append c0 c1 in
       record {
         point = q;
-        run = subst (λ (k : ℕ). Runs k p q) (sym len) (goes-then m functions place lowb highb (length c0) 1 p p0 q l0.run run1);
-        pc = omega (arith, len, pc0);
-        holds = hold-next values here p0 d x inside l0.holds;
-        next = below-is (operand program values o) x (next-at q d) l0.is fits (load_stored p0.machine.control (low + (32 * d + 16)) 8 x);
+        run = subst (λ (k : ℕ). Runs k p q) (sym len) (goes-then m functions place lowb highb (length c0) (length c1) p p0 q l0.run save.run);
+        pc = omega (arith, len, pc0, pc1);
+        holds = hold-next values here p0 q d x save.alters inside l0.holds;
+        next = below-is (operand program values o) x (next-at q d) l0.is fits (ap (λ (c : ℕ → ℕ). load_bytes c (low + (32 * d + 16)) 8) save.alters.control ∙ load_stored p0.machine.control (low + (32 * d + 16)) 8 x);
         others = λ e ne.
-            load_outside p0.machine.control (low + (32 * d + 16)) 8 x (low + (32 * e + 16)) 8 (nexts-apart e d ne)
+            ap (λ (c : ℕ → ℕ). load_bytes c (low + (32 * e + 16)) 8) save.alters.control
+            ∙ load_outside p0.machine.control (low + (32 * d + 16)) 8 x (low + (32 * e + 16)) 8 (nexts-apart e d ne)
             ∙ ap (λ (c : ℕ → ℕ). load_bytes c (low + (32 * e + 16)) 8) l0.control;
       }
 
@@ -245,7 +261,7 @@ module _ (program : Program) (function : Function) (a : Invocation) (s : Machine
       pub point : Point
       pub run : Runs (length (nexts_code globals function from to at insts)) p point
       pub pc : point.machine.regs.pc ≡ p.machine.regs.pc + 4 * length (nexts_code globals function from to at insts)
-      pub short : length (nexts_code globals function from to at insts) ≤ 9 * length insts
+      pub short : length (nexts_code globals function from to at insts) ≤ 11 * length insts
       pub holds : Held values here point
       pub next : AreNext values at insts point
       pub lower : (e : ℕ) → e < number_at function to at → next-at point e ≡ next-at p e
@@ -293,7 +309,7 @@ module _ (program : Program) (function : Function) (a : Invocation) (s : Machine
 
     pub phis-go : (before : List Value) (here : Memory) (insts : List Inst) (values : List Value) (p : Point) (at : ℕ) → AreReady before at insts → AreNext before at insts p → Held values here p
         → Stands place p.machine.regs.pc (phis_code function to at insts)
-        → Through program a s low frame n m functions room place lowb highb bottom top is-frame (phis_code function to at insts) (with_phis program function from before to at insts values) here p
+        → Through (phis_code function to at insts) (with_phis program function from before to at insts values) here p
     phis-go before here [] values p at ready next h st = record {
       point = p;
       run = goes-none m functions place lowb highb p;
@@ -305,23 +321,30 @@ module _ (program : Program) (function : Function) (a : Invocation) (s : Machine
         let inside = ready.0 in
         let v = phi_value program before from inst.op in
         let x = next-at p d in
-        let run0 = load-next-goes values here p T0 d scratch-t0 ready.0 h (st.0, st.1, st.2, tt) in
-        let p0 : Point = put p T0 x 1 in
-        let h0 = hold-put a s low frame values here p T0 x 1 scratch-t0 h in
-        let st1 = st.3 in
-        let run1 = store-goes a s low frame m functions room place lowb highb bottom top values here p0 T0 d (omega (arith, is-frame, inside)) h0 (st1.0, st1.1, st1.2, tt) in
-        let p1 : Point = stored_point a s low frame p0 d x in
-        let h1 = hold-store a s low frame values here p0 d x v (omega (arith, is-frame, inside)) next.0 ready.4 h0 in
+        let c0 : List Instr = load_next T0 d in
+        let c1 : List Instr = store_value T0 d in
+        let c2 : List Instr = phis_code function to (at + 1) insts in
+        let parts = stands-apart place p.machine.regs.pc c0 (c1 ++ c2) st in
+        let run0 = load-next-goes values here p T0 d scratch-t0 ready.0 h parts.0 in
+        let p0 : Point = put p T0 x (length c0) in
+        let h0 = hold-put a s low frame values here p T0 x (length c0) scratch-t0 h in
+        let parts1 = stands-apart place p0.machine.regs.pc c1 c2 parts.1 in
+        let save = store-goes a s low frame m functions room place lowb highb bottom top values here p0 T0 d (λ z. omega (arith, z)) (omega (arith, is-frame, inside)) h0 parts1.0 in
+        let p1 : Point = save.point in
+        let at1 = save.pc in
+        let h1 = hold-store a s low frame values here p0 p1 d x v save.alters (omega (arith, is-frame, inside)) next.0 ready.4 h0 in
         let h1' = subst (λ (vs : List Value). Held vs here p1) (sym (set-result at inst v values ready.2)) h1 in
-        let alike = next-alike before insts (at + 1) p p1 (λ e. load_outside p.machine.control (low + 32 * d) 8 x (low + (32 * e + 16)) 8 (back e d (next-slot e d))) next.1 in
-        let rest = phis-go before here insts (with_result function to at inst v values) p1 (at + 1) ready.5 alike h1' st1.3 in
+        let alike = next-alike before insts (at + 1) p p1
+        (λ e. ap (λ (c : ℕ → ℕ). load_bytes c (low + (32 * e + 16)) 8) save.alters.control ∙ load_outside p.machine.control (low + 32 * d) 8 x (low + (32 * e + 16)) 8 (back e d (next-slot e d))) next.1 in
+        let rest = phis-go before here insts (with_result function to at inst v values) p1 (at + 1) ready.5 alike h1' (subst (λ (pc : ℕ). Stands place pc c2) (sym at1) parts1.1) in
         let there' = rest.pc in
+        let len0 = length-append c0 (c1 ++ c2) in
+        let len1 = length-append c1 c2 in
         record {
           point = rest.point;
-          run = subst (λ (k : ℕ). Runs k p rest.point) (let e : 1 + (1 + length (phis_code function to (at + 1) insts)) ≡ length (phis_code function to at (inst ∷ insts)) = omega arith in e)
-              (goes-then m functions place lowb highb 1 (1 + length (phis_code function to (at + 1) insts)) p p0 rest.point run0
-              (goes-then m functions place lowb highb 1 (length (phis_code function to (at + 1) insts)) p0 p1 rest.point run1 rest.run));
-          pc = omega (arith, there');
+          run = subst (λ (k : ℕ). Runs k p rest.point) (let e : length c0 + (length c1 + length c2) ≡ length (c0 ++ (c1 ++ c2)) = omega (arith, len0, len1) in e)
+              (goes-then m functions place lowb highb (length c0) (length c1 + length c2) p p0 rest.point run0 (goes-then m functions place lowb highb (length c1) (length c2) p0 p1 rest.point save.run rest.run));
+          pc = omega (arith, there', at1, len0, len1);
           holds = rest.holds;
         }
       where
@@ -332,21 +355,14 @@ module _ (program : Program) (function : Function) (a : Invocation) (s : Machine
   -- ---- a jump
 
   -- a jump changes nothing in the frame
-  keeps-hopped : (least : ℕ) (p : Point) (to : ℕ) (h : Hops m place least p to) → KeepsRegs saved_regs p.machine.regs h.point.machine.regs
-  keeps-hopped least p to h =
-      let o = λ (i : ℕ) (ne : i ≢ 31). h.others i ne in
-      (o 8 (λ z. omega (arith, z)), (o 9 (λ z. omega (arith, z)), (o 18 (λ z. omega (arith, z)), (o 19 (λ z. omega (arith, z)), (o 20 (λ z. omega (arith, z)), (o 21 (λ z. omega (arith, z)), (o 22 (λ z. omega (arith, z)), (o 23 (λ z. omega (arith, z)), (o 24 (λ z. omega (arith, z)), (o 25 (λ z. omega (arith, z)), (o 26 (λ z. omega (arith, z)), (o 27 (λ z. omega (arith, z)), tt))))))))))))
-
-  keeps-both : (rs : List Reg) (r t u : Registers) → KeepsRegs rs r t → KeepsRegs rs t u → KeepsRegs rs r u
-  keeps-both [] r t u h k = tt
-  keeps-both (x ∷ rs) r t u h k = (k.0 ∙ h.0, keeps-both rs r t u h.1 k.1)
-
   pub hold-hopped : (least : ℕ) (values : List Value) (here : Memory) (p : Point) (to : ℕ) → Held values here p → (h : Hops m place least p to) → Held values here h.point
   hold-hopped least values here p to h hop = record {
     sp = hop.others 2 (λ z. omega (arith, z)) ∙ h.sp;
     slots = λ i v e. ap (λ (c : ℕ → ℕ). load_bytes c (low + 32 * i) 8) hop.control ∙ h.slots i v e;
     ra = ap (λ (c : ℕ → ℕ). load_bytes c (low + (frame - 8)) 8) hop.control ∙ h.ra;
-    saved = keeps-both saved_regs s.regs p.machine.regs hop.point.machine.regs h.saved (keeps-hopped least p to hop);
+    aside = ap (λ (c : ℕ → ℕ). load_bytes c (low + (frame - 104)) 8) hop.control ∙ h.aside;
+    data_top = hop.others 27 (λ z. omega (arith, z)) ∙ h.data_top;
+    saved = keeps-then saved_regs s.regs p.machine.regs hop.point.machine.regs h.saved (keeps-others p.machine.regs hop.point.machine.regs hop.others);
     kept = λ x le. ap (λ (c : ℕ → ℕ). c x) hop.control ∙ h.kept x le;
     memory' = subst (λ (b : ℕ → ℕ). RefinesMemory here b) (sym hop.bytes) h.memory';
     counted = hop.counted ∙ h.counted;

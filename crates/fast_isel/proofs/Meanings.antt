@@ -106,7 +106,7 @@ cast-means op flags from to (Some i) r one most one' most' wide fa ha = λ k e. 
 abbrev pub Keeps : List Instr → Type 0
 Keeps code = (s : Registers) (j : ℕ) → j ≢ 5 → j ≢ 6 → (after_all code s).x j ≡ s.x j
 
-keeps-then : (xs ys : List Instr) → Keeps xs → Keeps ys → Keeps (xs ++ ys)
+pub keeps-then : (xs ys : List Instr) → Keeps xs → Keeps ys → Keeps (xs ++ ys)
 keeps-then xs ys h k = λ s j n5 n6. ap (λ (u : Registers). u.x j) (after-append xs ys s) ∙ k (after_all xs s) j n5 n6 ∙ h s j n5 n6
 
 pub keeps-none : Keeps []
@@ -120,7 +120,7 @@ keeps-if false xs ys h k = k
 abbrev OnFirst : Instr → Type 0
 OnFirst i = (s : Registers) (j : ℕ) → j ≢ 5 → (after s i).x j ≡ s.x j
 
-keeps-first : (i : Instr) (is : List Instr) → OnFirst i → Keeps is → Keeps (i ∷ is)
+pub keeps-first : (i : Instr) (is : List Instr) → OnFirst i → Keeps is → Keeps (i ∷ is)
 keeps-first i is h k = λ s j n5 n6. k (after s i) j n5 n6 ∙ h s j n5
 
 on-registers : (op : RegOp) → OnFirst (RegisterOp op T0 T0 T1)
@@ -138,17 +138,17 @@ keeps-on-first op z is k = keeps-first (Imm op T0 T0 (pos z)) is (on-immediate o
 keeps-on-second : (op : ImmOp) (z : ℕ) (is : List Instr) → Keeps is → Keeps (Imm op T1 T1 (pos z) ∷ is)
 keeps-on-second op z is k = λ s j n5 n6. k (after s (Imm op T1 T1 (pos z))) j n5 n6 ∙ written-other s.x 6 _ j n6
 
-keeps-cut : (w : ℕ) → Keeps (zero_extended w T0)
+pub keeps-cut : (w : ℕ) → Keeps (zero_extended w T0)
 keeps-cut w =
     keeps-if (w == 64) [] _ keeps-none
     (keeps-if (nat_le w 11) _ _ (keeps-on-first Andi (2 ^ w - 1) [] keeps-none) (keeps-on-first Slli (64 - w) (Imm Srli T0 T0 (pos (64 - w)) ∷ []) (keeps-on-first Srli (64 - w) [] keeps-none)))
 
-keeps-sign : (w : ℕ) → Keeps (sign_extended w T0)
+pub keeps-sign : (w : ℕ) → Keeps (sign_extended w T0)
 keeps-sign w =
     keeps-if (w == 64) [] _ keeps-none
     (keeps-if (w == 32) _ _ (keeps-on-first Addiw 0 [] keeps-none) (keeps-on-first Slli (64 - w) (Imm Srai T0 T0 (pos (64 - w)) ∷ []) (keeps-on-first Srai (64 - w) [] keeps-none)))
 
-keeps-second-sign : (w : ℕ) → Keeps (sign_extended w T1)
+pub keeps-second-sign : (w : ℕ) → Keeps (sign_extended w T1)
 keeps-second-sign w =
     keeps-if (w == 64) [] _ keeps-none
     (keeps-if (w == 32) _ _ (keeps-on-second Addiw 0 [] keeps-none) (keeps-on-second Slli (64 - w) (Imm Srai T1 T1 (pos (64 - w)) ∷ []) (keeps-on-second Srai (64 - w) [] keeps-none)))

@@ -63,13 +63,13 @@ cut-modulo w k (negsuc n) e =
 
 -- ---- numbers with their sign
 
-positive : (w n : ℕ) → n < 2 ^ (w - 1) → signed w n ≡ pos n
+pub positive : (w n : ℕ) → n < 2 ^ (w - 1) → signed w n ≡ pos n
 positive w n h = ap (λ (b : Bool). cond (not b) (pos n -ℤ pos (2 ^ w)) (pos n)) (lt-ltb n (2 ^ (w - 1)) h)
 
 below-zero : (a b : ℕ) → a < b → pos a -ℤ pos b ≡ negsuc (b - a - 1)
 below-zero a b h = grind (arith, ints)
 
-negative : (w n : ℕ) → 2 ^ (w - 1) ≤ n → n < 2 ^ w → signed w n ≡ negsuc (2 ^ w - n - 1)
+pub negative : (w n : ℕ) → 2 ^ (w - 1) ≤ n → n < 2 ^ w → signed w n ≡ negsuc (2 ^ w - n - 1)
 negative w n h k = ap (λ (b : Bool). cond (not b) (pos n -ℤ pos (2 ^ w)) (pos n)) (le-ltb n (2 ^ (w - 1)) h) ∙ below-zero n (2 ^ w) k
 
 cast-positive : (n : ℕ) → n < 2 ^ 63 → cast_signed w64 n ≡ pos n

@@ -143,7 +143,7 @@ op-run : (op : RegOp) (rd rs1 rs2 : Reg) → IsRun 1 (RegisterOp op rd rs1 rs2 �
 op-run op rd rs1 rs2 = record { steps = tt; valid = (tt, tt); few = omega arith }
 
 module _ (w : ℕ) (one : 1 ≤ w) (most : w ≤ 64) where
-  zero-run : (rd : Reg) → IsRun 2 (zero_extended w rd)
+  pub zero-run : (rd : Reg) → IsRun 2 (zero_extended w rd)
   zero-run rd =
       run-if 2 (w == 64) [] _ (λ e. run-none)
       (λ e. run-if 2 (nat_le w 11) _ _
@@ -153,7 +153,7 @@ module _ (w : ℕ) (one : 1 ≤ w) (most : w ≤ 64) where
       mask-fits : w ≤ 11 → IsValid (Imm Andi rd rd (pos (2 ^ w - 1)))
       mask-fits h = let p : 2 ^ w ≤ 2 ^ 11 = pow_mono h in (omega (arith, ints), omega (arith, ints, p))
 
-  sign-run : (rd : Reg) → IsRun 2 (sign_extended w rd)
+  pub sign-run : (rd : Reg) → IsRun 2 (sign_extended w rd)
   sign-run rd =
       run-if 2 (w == 64) [] _ (λ e. run-none)
       (λ e. run-if 2 (w == 32) _ _
@@ -182,7 +182,7 @@ module _ (w : ℕ) (one : 1 ≤ w) (most : w ≤ 64) where
   binary-run ir.Or = wider 1 7 _ (omega arith) (op-run Or T0 T0 T1)
   binary-run ir.Xor = wider 1 7 _ (omega arith) (op-run Xor T0 T0 T1)
 
-  both-run : IsRun 4 (sign_extended w T0 ++ sign_extended w T1)
+  pub both-run : IsRun 4 (sign_extended w T0 ++ sign_extended w T1)
   both-run = run-append 2 2 (sign_extended w T0) (sign_extended w T1) (sign-run T0) (sign-run T1)
 
   turned-run : (op : RegOp) (rs1 rs2 : Reg) → IsRun 2 (RegisterOp op T0 rs1 rs2 ∷ Imm Xori T0 T0 (pos 1) ∷ [])
@@ -222,10 +222,10 @@ if-short : (b : Bool) (n : ℕ) (xs ys : List Instr) → length xs ≤ n → len
 if-short true n xs ys h k = h
 if-short false n xs ys h k = k
 
-zero-short : (w : ℕ) (rd : Reg) → length (zero_extended w rd) ≤ 2
+pub zero-short : (w : ℕ) (rd : Reg) → length (zero_extended w rd) ≤ 2
 zero-short w rd = if-short (w == 64) 2 [] _ (omega arith) (if-short (nat_le w 11) 2 _ _ (omega arith) (omega arith))
 
-sign-short : (w : ℕ) (rd : Reg) → length (sign_extended w rd) ≤ 2
+pub sign-short : (w : ℕ) (rd : Reg) → length (sign_extended w rd) ≤ 2
 sign-short w rd = if-short (w == 64) 2 [] _ (omega arith) (if-short (w == 32) 2 _ _ (omega arith) (omega arith))
 
 signed-short : (w : ℕ) (op : RegOp) → length (sign_extended w T0 ++ (sign_extended w T1 ++ RegisterOp op T0 T0 T1 ∷ zero_extended w T0)) ≤ 7

@@ -13,6 +13,7 @@ use Rattle.rv_core.specs.declared.instr.BranchOp.TheVariants.{Bne}
 use Rattle.rv_core.specs.declared.instr.ImmOp.TheVariants.{Addi}
 use Rattle.rv_core.specs.declared.instr.Instr.{Instr}
 use Rattle.rv_core.specs.declared.instr.Instr.TheVariants.{Branch, Imm}
+use Rattle.rv_core.specs.Bytes.{load_bytes}
 use Rattle.rv_core.specs.Step.{written, plus}
 use Rattle.ir_meaning.specs.Value.{Value}
 use Rattle.ir_meaning.specs.Operators.{select}
@@ -26,9 +27,9 @@ use Rattle.rv_play.proofs.Lines.{Stands, stands-apart, Goes, goes-then, goes-non
 use Rattle.fast_isel.specs.Code.{store_value}
 use Rattle.fast_isel.specs.Narrow.{after_all}
 use Rattle.fast_isel.specs.Operations.{IsSlotOperand, AreSlotOperands, value_code, values_code, choice_code}
-use Rattle.fast_isel.proofs.Const.{put, puts-one, const-puts, eq-true}
-use Rattle.fast_isel.proofs.Frame.{Is, Holds, IsScratch, keeps-then, saved_regs, scratch-t0, scratch-t1, scratch-t2, scratch-argument, argument-number, other-register, hold-put, hold-store, stored_point, store-goes, operand-loads}
-use Rattle.fast_isel.proofs.Body.{const-short}
+use Rattle.fast_isel.proofs.Const.{put, puts-one, const-puts, const-short, eq-true}
+use Rattle.fast_isel.proofs.Frame.{Is, Holds, IsScratch, keeps-then, saved_regs, scratch-t0, scratch-t1, scratch-t2, scratch-argument, argument-number, hold-put, hold-store, store-goes, value-puts, operand-some}
+use Rattle.fast_isel.proofs.Slots.{load-short, store-some, other-register}
 use Rattle.fast_isel.proofs.NarrowRuns.{AreSteps, behind, steps-go}
 use Rattle.fast_isel.proofs.Meanings.{Keeps}
 
@@ -56,7 +57,7 @@ scratch-arguments count few j low high =
 
 -- an operand takes at most eight instructions
 pub value-short : (globals : List Global) (rd : Reg) (o : Operand) → length (value_code globals rd o) ≤ 8
-value-short globals rd (Local i) = omega arith
+value-short globals rd (Local i) = let short = load-short rd (32 * i) in omega (arith, short)
 value-short globals rd (Num k) = const-short 3 rd k
 value-short globals rd Null = const-short 3 rd 0
 value-short globals rd (PlaceOf global offset) = const-short 3 rd (place_address globals global offset)
@@ -114,11 +115,10 @@ module _ (program : Program) (a : Invocation) (s : Machine) (low frame n : ℕ) 
 
   pub value-brings : (values : List Value) (here : Memory) (p : Point) (rd : Reg) (o : Operand) → IsScratch rd → IsSlotOperand n o → Held values here p → Stands place p.machine.regs.pc (value_code globals rd o) → Brings values here p rd o
   value-brings values here p rd (Local i) scratch small h st =
-      let l = operand-loads a s low frame m functions room place lowb highb bottom top program values here p rd (Local i) n scratch (omega (arith, is-frame)) (omega (arith, is-frame)) is-frame small h st in
-      by-put values here p rd (Local i) l.number scratch h l.is l.run
+      by-put values here p rd (Local i) (load_bytes p.machine.control (low + 32 * i) 8) scratch h (λ k e. h.slots i k (operand-some values i k e))
+      (value-puts a s low frame m functions room place lowb highb bottom top values here p rd i scratch (omega (arith, is-frame, small)) h st)
   value-brings values here p rd (Num k) scratch small h st =
-      let l = operand-loads a s low frame m functions room place lowb highb bottom top program values here p rd (Num k) n scratch (omega (arith, is-frame)) (omega (arith, is-frame)) is-frame small h st in
-      by-put values here p rd (Num k) l.number scratch h l.is l.run
+      by-put values here p rd (Num k) k scratch h (λ j e. let same : k ≡ j = cc in same) (const-puts m functions place lowb highb p rd k scratch.0 small st)
   value-brings values here p rd Null scratch small h st =
       by-put values here p rd Null 0 scratch h (λ k e. let same : 0 ≡ k = cc in same) (const-puts m functions place lowb highb p rd 0 scratch.0 (omega arith) st)
   value-brings values here p rd (PlaceOf global offset) scratch small h st =
@@ -190,7 +190,7 @@ module _ (program : Program) (a : Invocation) (s : Machine) (low frame n : ℕ) 
     pub holds : Held values here point
     pub is : Is value (point.machine.regs.x 5)
 
-  hold-behind : (code : List Instr) (values : List Value) (here : Memory) (p : Point) → Keeps code → Held values here p → Held values here (behind p code)
+  pub hold-behind : (code : List Instr) (values : List Value) (here : Memory) (p : Point) → Keeps code → Held values here p → Held values here (behind p code)
   hold-behind code values here p keeps h =
       let k = keeps p.machine.regs in
       let o : (j : ℕ) → j ≢ 5 → j ≢ 6 → (behind p code).machine.regs.x j ≡ p.machine.regs.x j = k in
@@ -199,7 +199,9 @@ module _ (program : Program) (a : Invocation) (s : Machine) (low frame n : ℕ) 
         slots = h.slots;
         ra = h.ra;
         saved = keeps-then saved_regs s.regs p.machine.regs (behind p code).machine.regs h.saved
-            (o 8 (λ z. cc) (λ z. cc), (o 9 (λ z. cc) (λ z. cc), (o 18 (λ z. cc) (λ z. cc), (o 19 (λ z. cc) (λ z. cc), (o 20 (λ z. cc) (λ z. cc), (o 21 (λ z. cc) (λ z. cc), (o 22 (λ z. cc) (λ z. cc), (o 23 (λ z. cc) (λ z. cc), (o 24 (λ z. cc) (λ z. cc), (o 25 (λ z. cc) (λ z. cc), (o 26 (λ z. cc) (λ z. cc), (o 27 (λ z. cc) (λ z. cc), tt))))))))))));
+            (o 8 (λ z. cc) (λ z. cc), (o 9 (λ z. cc) (λ z. cc), (o 18 (λ z. cc) (λ z. cc), (o 19 (λ z. cc) (λ z. cc), (o 20 (λ z. cc) (λ z. cc), (o 21 (λ z. cc) (λ z. cc), (o 22 (λ z. cc) (λ z. cc), (o 23 (λ z. cc) (λ z. cc), (o 24 (λ z. cc) (λ z. cc), (o 25 (λ z. cc) (λ z. cc), (o 26 (λ z. cc) (λ z. cc), tt)))))))))));
+        aside = h.aside;
+        data_top = o 27 (λ z. cc) (λ z. cc) ∙ h.data_top;
         kept = h.kept;
         memory' = h.memory';
         counted = h.counted;
@@ -234,7 +236,7 @@ module _ (program : Program) (a : Invocation) (s : Machine) (low frame n : ℕ) 
   branched p pc = moved p (record p.machine { regs = record { x = p.machine.regs.x; pc = pc } }) p.counted
 
   hold-branched : (values : List Value) (here : Memory) (p : Point) (pc : ℕ) → Held values here p → Held values here (branched p pc)
-  hold-branched values here p pc h = record { sp = h.sp; slots = h.slots; ra = h.ra; saved = h.saved; kept = h.kept; memory' = h.memory'; counted = h.counted }
+  hold-branched values here p pc h = record { sp = h.sp; slots = h.slots; ra = h.ra; aside = h.aside; saved = h.saved; data_top = h.data_top; kept = h.kept; memory' = h.memory'; counted = h.counted }
 
   branch-goes : (p : Point) (zeroed : Bool) (pc : ℕ) → (p.machine.regs.x 7 == 0) ≡ zeroed → Stands place p.machine.regs.pc (Branch Bne T2 X0 (pos 8) ∷ []) → p.machine.regs.pc + 8 ≤ code_limit → p.machine.regs.pc + cond (not zeroed) 8 4 ≡ pc
       → Runs 1 p (branched p pc)
@@ -304,11 +306,11 @@ module _ (program : Program) (a : Invocation) (s : Machine) (low frame n : ℕ) 
   pub operation-goes : (os : List Operand) (work : List Instr) (value : Value) (values : List Value) (here : Memory) (p : Point) (d : ℕ) → length os ≤ 3 → AreSlotOperands n os → d < n
       → ((k : ℕ) → value ≡ Some k → k < 2 ^ 64)
       → ((q : Point) → AreIn (map (operand program values) os) 5 q.machine.regs.x → Held values here q → Stands place q.machine.regs.pc work → Worked work values here value q)
-      → Held values here p → Stands place p.machine.regs.pc (values_code globals 5 os ++ (work ++ store_value T0 d ∷ []))
-      → Reaches (values_code globals 5 os ++ (work ++ store_value T0 d ∷ [])) (slice_set values d value) here p
+      → Held values here p → Stands place p.machine.regs.pc (values_code globals 5 os ++ (work ++ store_value T0 d))
+      → Reaches (values_code globals 5 os ++ (work ++ store_value T0 d)) (slice_set values d value) here p
   operation-goes os work value values here p d few small inside fits works h st =
       let c0 : List Instr = values_code globals 5 os in
-      let c2 : List Instr = store_value T0 d ∷ [] in
+      let c2 : List Instr = store_value T0 d in
       let parts = stands-apart place p.machine.regs.pc c0 (work ++ c2) st in
       let b = values-bring values here p 5 os (scratch-temporaries (length os) few) small h parts.0 in
       let pc0 = b.pc in
@@ -316,17 +318,19 @@ module _ (program : Program) (a : Invocation) (s : Machine) (low frame n : ℕ) 
       let w = works b.point b.are b.holds parts1.0 in
       let pc1 = w.pc in
       let r : ℕ = w.point.machine.regs.x 5 in
-      let store = store-goes a s low frame m functions room place lowb highb bottom top values here w.point T0 d (omega (arith, is-frame, inside)) w.holds (subst (λ (k : ℕ). Stands place k c2) (sym pc1) parts1.1) in
-      let q : Point = stored_point a s low frame w.point d r in
+      let store = store-goes a s low frame m functions room place lowb highb bottom top values here w.point T0 d (λ z. omega (arith, z)) (omega (arith, is-frame, inside)) w.holds (subst (λ (k : ℕ). Stands place k c2) (sym pc1) parts1.1) in
+      let q : Point = store.point in
+      let pc2 = store.pc in
+      let some = store-some T0 (32 * d) in
       let len0 = length-append c0 (work ++ c2) in
       let len1 = length-append work c2 in
       let fw = w.few in
       record {
-        count = length c0 + (w.count + 1);
-        some = omega arith;
+        count = length c0 + (w.count + length c2);
+        some = omega (arith, some);
         few = omega (arith, len0, len1, fw);
         point = q;
-        run = goes-then m functions place lowb highb (length c0) (w.count + 1) p b.point q b.run (goes-then m functions place lowb highb w.count 1 b.point w.point q w.run store);
-        pc = omega (arith, len0, len1, pc0, pc1);
-        holds = hold-store a s low frame values here w.point d r value (omega (arith, is-frame, inside)) w.is fits w.holds;
+        run = goes-then m functions place lowb highb (length c0) (w.count + length c2) p b.point q b.run (goes-then m functions place lowb highb w.count (length c2) b.point w.point q w.run store.run);
+        pc = omega (arith, len0, len1, pc0, pc1, pc2);
+        holds = hold-store a s low frame values here w.point q d r value store.alters (omega (arith, is-frame, inside)) w.is fits w.holds;
       }

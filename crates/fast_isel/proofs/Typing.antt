@@ -1,19 +1,21 @@
 -- What typing says of operands, casts and calls.
-use Rattle.std.proofs.Common.{◌≡◌, refl, sym, ap, subst, ◌∙◌, ℕ, zero, suc, List, [], ◌∷◌, length, Option, Some, None, Bool, true, false, cond, arith}
+use Rattle.std.proofs.Common.{◌≡◌, ◌≢◌, refl, sym, ap, subst, ◌∙◌, ℕ, zero, suc, ◌≤◌, List, [], ◌∷◌, length, Option, Some, None, Bool, true, false, cond, arith}
 use Rattle.std.specs.Prelude.{◌==◌, map, drop, slice_get}
 use Rattle.ir_core.specs.declared.types.Ty.{Ty}
 use Rattle.ir_core.specs.declared.types.Ty.TheVariants.{Void, Int, Ptr}
 use Rattle.ir_core.specs.declared.code.Operand.{Operand}
 use Rattle.ir_core.specs.declared.code.CastOp.{CastOp}
 use Rattle.ir_core.specs.declared.code.CastOp.TheVariants.{Trunc, ZExt, SExt, PtrToInt, IntToPtr, Same}
+use Rattle.ir_core.specs.declared.code.BuiltIn.{BuiltIn}
+use Rattle.ir_core.specs.declared.code.BuiltIn.TheVariants.{MemCpy, MemMove, MemSet, SMax, SMin, UMax, UMin, Abs}
 use Rattle.ir_core.specs.declared.code.Op.{Op}
 use Rattle.ir_core.specs.declared.code.Op.TheVariants.{Binary, Icmp, Cast, Select, Freeze, Phi, Alloca, Load, Store, Gep, Call, BuiltIn as CallBuiltIn, Ret, Br, CondBr, Switch, Unreachable}
 use Rattle.ir_core.specs.declared.code.Inst.{Inst}
 use Rattle.ir_core.specs.declared.program.Function.{Function}
 use Rattle.ir_meaning.specs.Value.{Value}
-use Rattle.ir_meaning.specs.Step.{Program, operand, arguments_of, on_edge, phi_value, function_at}
+use Rattle.ir_meaning.specs.Step.{Program, operand, arguments_of, on_edge, phi_value, function_at, moves_bytes}
 use Rattle.ir_meaning.specs.Meaning.{result_width, of_function}
-use Rattle.ir_meaning.specs.Typed.{types, IsTyped, IsOp, IsCallee, IsCast, IsInteger, IsValueType, IsResultType, ArePairs, AreArguments, IsOperand}
+use Rattle.ir_meaning.specs.Typed.{types, IsTyped, IsOp, IsCallee, IsBuiltIn, IsCast, IsInteger, IsValueType, IsResultType, ArePairs, AreArguments, IsOperand}
 use Rattle.fast_isel.specs.Operations.{AreSlotOperands}
 use Rattle.ir_meaning.specs.Operators.{width}
 use Rattle.ir_meaning.specs.Ranges.{FitsWidth}
@@ -51,6 +53,40 @@ edge-typed tys blocks from ty (pair ∷ pairs) h = by_test (pair.1 == from) (edg
     by_test : (b : Bool) → IsOperand tys ty (on_edge from pairs) → IsOperand tys ty (cond b pair.0 (on_edge from pairs))
     by_test true rest = h.0
     by_test false rest = rest
+
+-- what a built-in that gives a value takes
+pub record TwoTyped (which : BuiltIn) (gives one other : Ty) : Type 0 where
+  pub integer : IsInteger gives
+  pub left : one ≡ gives
+  pub right : which ≢ Abs → other ≡ gives
+  pub narrow : width other ≤ 64
+
+both-typed : (which : BuiltIn) (gives one other : Ty) → one ∷ other ∷ [] ≡ gives ∷ gives ∷ [] → IsInteger gives → TwoTyped which gives one other
+both-typed which gives one other e is =
+    let same : other ≡ gives = cc in
+    record {
+      integer = is;
+      left = cc;
+      right = λ ne. same;
+      narrow = subst (λ (u : Ty). width u ≤ 64) (sym same) (width-small gives (integer-value gives is));
+    }
+
+pub two-typed : (which : BuiltIn) (gives one other : Ty) → moves_bytes which ≡ false → IsBuiltIn which (one ∷ other ∷ []) gives → TwoTyped which gives one other
+two-typed SMax gives one other h is = both-typed SMax gives one other is.0 is.1
+two-typed SMin gives one other h is = both-typed SMin gives one other is.0 is.1
+two-typed UMax gives one other h is = both-typed UMax gives one other is.0 is.1
+two-typed UMin gives one other h is = both-typed UMin gives one other is.0 is.1
+two-typed Abs gives one other h is =
+    let same : other ≡ Int 1 = (let e = is.0 in cc) in
+    record {
+      integer = is.1;
+      left = (let e = is.0 in cc);
+      right = λ ne. absurd (ne refl);
+      narrow = subst (λ (u : Ty). width u ≤ 64) (sym same) (omega arith);
+    }
+two-typed MemCpy gives one other h is = absurd (let bad : true ≡ false = h in cc)
+two-typed MemMove gives one other h is = absurd (let bad : true ≡ false = h in cc)
+two-typed MemSet gives one other h is = absurd (let bad : true ≡ false = h in cc)
 
 pub callee-result : (f : Option Function) (tys : List Ty) (gives : Ty) → IsCallee f tys gives → of_function None (λ (h : Function). result_width h.ret) f ≡ result_width gives
 callee-result None tys gives h = absurd h

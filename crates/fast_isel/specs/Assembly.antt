@@ -1,12 +1,12 @@
 -- The quick code of a function as the assembler holds it.
-use Rattle.std.specs.Prelude.{ℕ, ◌+◌, ◌*◌, List, [], ◌∷◌, ◌++◌, length, replicate, slice_set, Option, Some, None}
+use Rattle.std.specs.Prelude.{ℕ, ◌+◌, List, [], ◌∷◌, ◌++◌, length, replicate, slice_set, Option, Some, None}
 use Rattle.ir_core.specs.declared.program.Function.{Function}
 use Rattle.ir_core.specs.declared.program.Global.{Global}
 use Rattle.ir_core.specs.Units.{frame}
 use Rattle.rv_asm.specs.declared.item.Item.{Item as Assembled}
 use Rattle.rv_asm.specs.declared.item.Item.TheVariants as asm
 use Rattle.rv_asm.specs.Code.{Code}
-use Rattle.fast_isel.specs.Blocks.{Item, Plain, Bind, Goto, Test, function_items}
+use Rattle.fast_isel.specs.Blocks.{Item, Plain, Bind, Goto, Test, label_count, function_items}
 
 -- the assembler's items, among which labels have no place
 abbrev pub assembled : List Item → List Assembled
@@ -32,6 +32,6 @@ put code items = record { items = code.items ++ assembled items; bound = bind_al
 abbrev pub labelled : ℕ → Code
 labelled labels = record { items = []; bound = replicate labels None }
 
--- a function's quick code: two labels for each block
-abbrev pub code_of : List Global → ℕ → Function → Code
-code_of globals symbol function = put (labelled (2 * length function.blocks)) (function_items globals symbol function (frame function))
+-- a function's quick code: a label for each block and each edge that has one
+abbrev pub code_of : List Global → ℕ → Function → ℕ → Code
+code_of globals symbol function room = put (labelled (label_count function)) (function_items globals symbol function room (frame function))

@@ -7,13 +7,16 @@ use Rattle.ir_core.specs.declared.code.Pred.{Pred}
 use Rattle.ir_core.specs.declared.code.Pred.TheVariants as pred
 use Rattle.ir_core.specs.declared.code.CastOp.{CastOp}
 use Rattle.ir_core.specs.declared.code.CastOp.TheVariants as cast
+use Rattle.ir_core.specs.declared.code.BuiltIn.{BuiltIn}
+use Rattle.ir_core.specs.declared.code.BuiltIn.TheVariants as built
 use Rattle.rv_core.specs.declared.reg.Reg.{Reg}
 use Rattle.rv_core.specs.declared.reg.Reg.TheVariants.{X0, T0, T1}
-use Rattle.rv_core.specs.declared.instr.ImmOp.TheVariants.{Sltiu, Xori, Andi, Slli, Srli, Srai, Addiw}
+use Rattle.rv_core.specs.declared.instr.BranchOp.TheVariants.{Bge, Bgeu}
+use Rattle.rv_core.specs.declared.instr.ImmOp.TheVariants.{Addi, Sltiu, Xori, Andi, Slli, Srli, Srai, Addiw}
 use Rattle.rv_core.specs.declared.instr.RegOp.{RegOp}
 use Rattle.rv_core.specs.declared.instr.RegOp.TheVariants.{Add, Sub, Sll, Slt, Sltu, Xor, Srl, Sra, Or, And, Mul, Div, Divw, Divu, Rem, Remw, Remu, Sraw}
 use Rattle.rv_core.specs.declared.instr.Instr.{Instr}
-use Rattle.rv_core.specs.declared.instr.Instr.TheVariants.{Imm, Op as RegisterOp}
+use Rattle.rv_core.specs.declared.instr.Instr.TheVariants.{Branch, Imm, Op as RegisterOp}
 use Rattle.rv_core.specs.Step.{Registers, after}
 
 -- cuts a register to a width, and extends its sign from a width
@@ -82,6 +85,19 @@ cast_code cast.SExt from to = sign_extended from T0 ++ zero_extended to T0
 cast_code cast.PtrToInt from to = zero_extended to T0
 cast_code cast.IntToPtr from to = []
 cast_code cast.Same from to = []
+
+-- takes the second number
+abbrev pub taken_second : Instr
+taken_second = Imm Addi T0 T1 (pos 0)
+
+-- A built-in that gives a value: a branch leaves the first number where it is what is given.
+abbrev pub built_in_code : BuiltIn → ℕ → List Instr
+built_in_code built.SMax w = both_signed w ++ Branch Bge T0 T1 (pos 8) ∷ taken_second ∷ zero_extended w T0
+built_in_code built.SMin w = both_signed w ++ Branch Bge T1 T0 (pos 8) ∷ taken_second ∷ zero_extended w T0
+built_in_code built.UMax w = Branch Bgeu T0 T1 (pos 8) ∷ taken_second ∷ []
+built_in_code built.UMin w = Branch Bgeu T1 T0 (pos 8) ∷ taken_second ∷ []
+built_in_code built.Abs w = sign_extended w T0 ++ Branch Bge T0 X0 (pos 8) ∷ RegisterOp Sub T0 X0 T0 ∷ zero_extended w T0
+built_in_code _ w = []
 
 -- the registers after a list of instructions
 abbrev pub after_all : List Instr → Registers → Registers

@@ -1,6 +1,6 @@
 -- What the loops of the compiler count: values, and labels that stand nowhere yet.
-use Rattle.std.proofs.Common.{◌≡◌, refl, ap, subst, ◌∙◌, ℕ, zero, suc, ◌+◌, ◌*◌, ◌<◌, ◌≤◌, ◌⊎◌, inl, inr, List, [], ◌∷◌, ◌++◌, length, get_or, replicate, Option, Some, None, cond, arith}
-use Rattle.std.specs.Prelude.{slice_get, slice_set, take}
+use Rattle.std.proofs.Common.{◌≡◌, refl, sym, ap, subst, ◌∙◌, ℕ, zero, suc, ◌+◌, ◌-◌, ◌<◌, ◌≤◌, ◌⊎◌, inl, inr, List, [], ◌∷◌, ◌++◌, length, get_or, replicate, Option, Some, None, cond, arith}
+use Rattle.std.specs.Prelude.{slice_get, slice_set, take, drop}
 use Rattle.std.proofs.lemmas.Bool.{cases_lt}
 use Rattle.std.proofs.lemmas.Option.{slice_get_read}
 use Rattle.std.proofs.lemmas.List.Sums.{sum_by-append, sum_by-cons, sum_by-take-le}
@@ -10,10 +10,14 @@ use Rattle.ir_core.specs.declared.program.Function.{Function}
 use Rattle.ir_core.specs.Units.{instructions, results, has_result, values}
 use Rattle.ir_meaning.specs.Step.{insts_at, insts_of, number_at}
 use Rattle.rv_asm.specs.Code.{Code}
-use Rattle.fast_isel.specs.Blocks.{Item, Plain, Bind, Goto, Test}
+use Rattle.fast_isel.specs.Blocks.{Item, Plain, Bind, Goto, Test, edges_of, edges_in, block_label, label_count}
 use Rattle.fast_isel.specs.Assembly.{bind_all, put, labelled}
+use Rattle.quick_blocks.specs.declared.starts.Start.{Start}
 use Rattle.quick_blocks.specs.Written.{AreFree}
-use Rattle.fast_isel.proofs.Fresh.{Rise, rise-ends}
+use Rattle.fast_isel.proofs.Fresh.{Rise, rise-ends, label-next, label-first}
+
+abbrev edge_number : Inst → ℕ
+edge_number inst = edges_of inst.op
 
 abbrev pub one_if : Inst → ℕ
 one_if inst = cond (has_result inst) 1 0
@@ -113,23 +117,97 @@ results_few function blocks i block same lt is =
     let most = number-most function (i + 1) 0 in
     omega (arith, more, most)
 
-pub each_more : (firsts : List ℕ) (v i : ℕ) (f : ℕ → ℕ) → length firsts ≡ i → v ≡ f i → ((b : ℕ) → b < i → slice_get firsts b ≡ Some (f b)) → (b : ℕ) → b < i + 1 → slice_get (firsts ++ v ∷ []) b ≡ Some (f b)
-each_more firsts v i f many is each b lt = by_order (cases_lt b i)
+pub each_more : (starts : List Start) (next : Start) (i : ℕ) (f : ℕ → Start) → length starts ≡ i → next ≡ f i → ((b : ℕ) → b < i → slice_get starts b ≡ Some (f b)) → (b : ℕ) → b < i + 1 → slice_get (starts ++ next ∷ []) b ≡ Some (f b)
+each_more starts next i f many is each b lt = by_order (cases_lt b i)
   where
-    inside : (xs ys : List ℕ) (b : ℕ) → b < length xs → slice_get (xs ++ ys) b ≡ slice_get xs b
+    inside : (xs ys : List Start) (b : ℕ) → b < length xs → slice_get (xs ++ ys) b ≡ slice_get xs b
     inside [] ys b lt = absurd (let bad : ⊥ = omega (arith, lt) in bad)
     inside (x ∷ xs) ys zero lt = refl
     inside (x ∷ xs) ys (suc b) lt = inside xs ys b (omega (arith, lt))
 
-    behind : (xs : List ℕ) (v : ℕ) → slice_get (xs ++ v ∷ []) (length xs) ≡ Some v
+    behind : (xs : List Start) (v : Start) → slice_get (xs ++ v ∷ []) (length xs) ≡ Some v
     behind [] v = refl
     behind (x ∷ xs) v = behind xs v
 
-    by_order : (b < i) ⊎ (i ≤ b) → slice_get (firsts ++ v ∷ []) b ≡ Some (f b)
-    by_order (inl less) = inside firsts (v ∷ []) b (omega (arith, less, many)) ∙ each b less
+    by_order : (b < i) ⊎ (i ≤ b) → slice_get (starts ++ next ∷ []) b ≡ Some (f b)
+    by_order (inl less) = inside starts (next ∷ []) b (omega (arith, less, many)) ∙ each b less
     by_order (inr le) =
-        let same : b ≡ length firsts = omega (arith, le, lt, many) in
-        ap (slice_get (firsts ++ v ∷ [])) same ∙ behind firsts v ∙ ap Some is ∙ ap (λ (k : ℕ). Some (f k)) (let z : i ≡ b = omega (arith, le, lt) in z)
+        let same : b ≡ length starts = omega (arith, le, lt, many) in
+        ap (slice_get (starts ++ next ∷ [])) same ∙ behind starts next ∙ ap Some is ∙ ap (λ (k : ℕ). Some (f k)) (let z : i ≡ b = omega (arith, le, lt) in z)
+
+-- where a block starts
+abbrev pub start_of : Function → ℕ → Start
+start_of function block = record { value = number_at function block 0; label = block_label function block }
+
+abbrev made_start : ℕ → ℕ → Start
+made_start value label = record { value = value; label = label }
+
+-- the next block starts behind the values and the labels of a block
+pub start_next : (function : Function) (block : ℕ) (start next : Start) (insts : List Inst) → insts ≡ insts_at function block → start ≡ start_of function block
+    → next.value ≡ start.value + results insts → next.label ≡ start.label + 1 + edges_in insts → next ≡ start_of function (block + 1)
+start_next function block start next insts same is follows behind =
+    let value = first-step function block in
+    let label = label-next function block in
+    let value' : start.value + results insts ≡ number_at function (block + 1) 0 = ap (λ (x : Start). x.value + results insts) is ∙ ap (λ (xs : List Inst). number_at function block 0 + results xs) same ∙ sym value in
+    let label' : start.label + 1 + edges_in insts ≡ block_label function (block + 1) =
+    ap (λ (x : Start). x.label + 1 + edges_in insts) is ∙ ap (λ (xs : List Inst). block_label function block + 1 + edges_in xs) same ∙ sym label in
+    ap (λ (v : ℕ). made_start v next.label) (follows ∙ value') ∙ ap (made_start (number_at function (block + 1) 0)) (behind ∙ label')
+
+pub start_zero : (function : Function) (start : Start) → start.value ≡ length function.params → start.label ≡ 0 → start ≡ start_of function 0
+start_zero function start value label = ap (λ (v : ℕ). made_start v start.label) (value ∙ sym (first-first function)) ∙ ap (made_start (number_at function 0 0)) (label ∙ sym (label-first function))
+
+label-rises : (function : Function) (block more : ℕ) → block_label function block ≤ block_label function (block + more)
+label-rises function block zero = let e : block_label function block ≡ block_label function (block + 0) = ap (block_label function) (let z : block ≡ block + 0 = omega arith in z) in omega (arith, e)
+label-rises function block (suc more) =
+    let rest = label-rises function block more in
+    let step = label-next function (block + more) in
+    let same : block_label function (block + suc more) ≡ block_label function (block + more + 1) = ap (block_label function) (let z : block + suc more ≡ block + more + 1 = omega arith in z) in
+    omega (arith, rest, step, same)
+
+-- the labels of a block and its edges are below the number of all
+pub label_below : (function : Function) (block : ℕ) → block < length function.blocks → block_label function block + 1 + edges_in (insts_at function block) ≤ label_count function
+label_below function block lt =
+    let step = label-next function block in
+    let rest = label-rises function (block + 1) (length function.blocks - (block + 1)) in
+    let same : block_label function (block + 1 + (length function.blocks - (block + 1))) ≡ label_count function = ap (block_label function) (let z : block + 1 + (length function.blocks - (block + 1)) ≡ length function.blocks = omega (arith, lt) in z) in
+    omega (arith, step, rest, same)
+
+pub label_most : (function : Function) (block : ℕ) → block ≤ length function.blocks → block_label function block ≤ label_count function
+label_most function block le =
+    let rest = label-rises function block (length function.blocks - block) in
+    let same : block_label function (block + (length function.blocks - block)) ≡ label_count function = ap (block_label function) (let z : block + (length function.blocks - block) ≡ length function.blocks = omega (arith, le) in z) in
+    omega (arith, rest, same)
+
+-- an instruction's edges are among those of its block
+edges-among : (insts : List Inst) (k : ℕ) (inst : Inst) → slice_get insts k ≡ Some inst → edges_of inst.op ≤ edges_in insts
+edges-among [] k inst e = absurd (let bad : ⊥ = cc in bad)
+edges-among (x ∷ xs) zero inst e =
+    let same : x ≡ inst = cc in
+    let one : edges_of x.op ≡ edges_of inst.op = ap (λ (y : Inst). edges_of y.op) same in
+    let sum = sum_by-cons edge_number x xs in
+    omega (arith, one, sum)
+edges-among (x ∷ xs) (suc k) inst e =
+    let rest = edges-among xs k inst e in
+    let sum = sum_by-cons edge_number x xs in
+    omega (arith, rest, sum)
+
+pub edges_at : (function : Function) (block place : ℕ) (inst : Inst) → slice_get (insts_at function block) place ≡ Some inst → edges_of inst.op ≤ edges_in (insts_at function block)
+edges_at function block place inst e = edges-among (insts_at function block) place inst e
+
+-- the edges of the instructions that are left
+pub edges_left : (insts : List Inst) (i : ℕ) (inst : Inst) → i < length insts → inst ≡ get_or insts i inst → edges_in (drop i insts) ≡ edges_of inst.op + edges_in (drop (i + 1) insts)
+edges_left [] i inst lt is = absurd (let bad : ⊥ = omega (arith, lt) in bad)
+edges_left (x ∷ xs) zero inst lt is =
+    let same : edges_of inst.op ≡ edges_of x.op = ap (λ (y : Inst). edges_of y.op) is in
+    let sum = sum_by-cons edge_number x xs in
+    omega (arith, same, sum)
+edges_left (x ∷ xs) (suc i) inst lt is = edges_left xs i inst (omega (arith, lt)) is ∙ ap (λ (k : ℕ). edges_of inst.op + edges_in (drop k (x ∷ xs))) (let z : suc (i + 1) ≡ suc i + 1 = omega arith in z)
+
+pub edges_none : (insts : List Inst) (i : ℕ) → length insts ≤ i → edges_in (drop i insts) ≡ 0
+edges_none [] zero le = refl
+edges_none [] (suc i) le = refl
+edges_none (x ∷ xs) zero le = absurd (let bad : ⊥ = omega (arith, le) in bad)
+edges_none (x ∷ xs) (suc i) le = edges_none xs i (omega (arith, le))
 
 -- ---- labels
 
@@ -169,5 +247,5 @@ none-stands zero label lt = absurd (let bad : ⊥ = omega (arith, lt) in bad)
 none-stands (suc labels) zero lt = refl
 none-stands (suc labels) (suc label) lt = none-stands labels label (omega (arith, lt))
 
-pub free-first : (function : Function) → AreFree function 0 (labelled (2 * length function.blocks))
-free-first function label le lt = none-stands (2 * length function.blocks) label lt
+pub free-first : (function : Function) → AreFree function 0 (labelled (label_count function))
+free-first function label le lt = none-stands (label_count function) label lt

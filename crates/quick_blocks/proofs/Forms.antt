@@ -1,9 +1,10 @@
 -- What the test finds of a function that passed the verifier.
 use Rattle.std.proofs.Common.{◌≡◌, refl, sym, ap, subst, ◌∙◌, ℕ, zero, suc, ◌+◌, ◌<◌, ◌≤◌, List, [], ◌∷◌, length, get_or, Option, Some, None, Bool, true, false, cond, arith}
 use Rattle.std.proofs.Math.Seq.{drop-cons}
-use Rattle.std.specs.Prelude.{drop, slice_get, ◌&&◌, ◌==◌, not, nat_lt, nat_le}
+use Rattle.std.specs.Prelude.{drop, take, sum_by, slice_get, ◌&&◌, ◌==◌, not, nat_lt, nat_le}
 use Rattle.std.proofs.lemmas.Bool.{and_parts, leb-true, eqb-true}
 use Rattle.std.proofs.lemmas.Option.{slice_get_read}
+use Rattle.std.proofs.lemmas.List.Sums.{sum_by-cons}
 use Rattle.ir_core.specs.declared.types.Ty.{Ty}
 use Rattle.ir_core.specs.declared.code.Operand.{Operand}
 use Rattle.ir_core.specs.declared.code.Op.{Op}
@@ -11,39 +12,52 @@ use Rattle.ir_core.specs.declared.code.Op.TheVariants.{Binary, Icmp, Cast, Selec
 use Rattle.ir_core.specs.declared.code.Inst.{Inst}
 use Rattle.ir_core.specs.declared.code.Block.{Block}
 use Rattle.ir_core.specs.declared.program.Function.{Function}
-use Rattle.ir_core.specs.Units.{values}
-use Rattle.ir_meaning.specs.Step.{Program, function_at, insts_at, insts_of, phis}
+use Rattle.ir_core.specs.Units.{instructions, units, values}
+use Rattle.ir_core.specs.declared.program.What.TheVariants.{Parameters, Units}
+use Rattle.ir_limits.specs.Limits.{above, function_limit, functions_limit}
+use Rattle.ir_meaning.specs.Step.{Program, function_at, insts_at, insts_of, phis, moves_bytes}
 use Rattle.ir_flow.specs.Code.{is_terminator, is_phi}
 use Rattle.ir_verify.specs.Shapes.{ends_once, has_no_phi, fits_number, is_shaped, all_cases_distinct, first_misshapen, misshapen}
 use Rattle.ir_verify.specs.Verdict.{refusal}
-use Rattle.ir_verify.proofs.Rows.{shaped}
-use Rattle.ir_verify.proofs.Lists.{every_at}
+use Rattle.ir_verify.proofs.Rows.{shaped, no_limit}
+use Rattle.ir_verify.proofs.Usable.{within, functions_pass}
+use Rattle.ir_verify.proofs.Lists.{every_at, or_none_left, or_none_right}
 use Rattle.rv_asm.specs.Layout.{IsAssembly}
 use Rattle.fast_isel.specs.Assembly.{code_of}
-use Rattle.quick_blocks.specs.Written.{AreWordsOf, AreQuickWords}
-use Rattle.quick_blocks.specs.Taken.{is_headless, are_headless, leads_on, all_lead, blocks_lead, is_width, are_widths, is_given, is_operand, are_arguments, is_form, are_forms, are_blocks, is_taken, are_taken}
-use Rattle.fast_isel.specs.Forms.{AreHeadless, IsHeadless, IsForm, IsJump, IsFlow}
+use Rattle.quick_blocks.specs.Written.{AreLimited, AreWordsOf, AreQuickWords, begins_plainly}
+use Rattle.quick_blocks.specs.Taken.{is_width, are_widths, is_given, is_operand, are_arguments, are_indices, is_built_in, is_form, are_forms, are_blocks, is_taken, are_taken}
+use Rattle.fast_isel.specs.Blocks.{is_headless, edges_of, edges_in, block_label, label_count}
+use Rattle.fast_isel.specs.Forms.{IsForm, IsJump, IsFlow}
+use Rattle.ir_limits.specs.Limits.{op_limit}
+use Rattle.ir_data.proofs.Sizes.{type_within}
+use Rattle.fast_isel.specs.Parts.{is_path}
+use Rattle.quick_blocks.proofs.Limits.{small-pieces, limited-at}
 
-pub form-is : (n blocks : ℕ) (gives : Ty) (op : Op) → is_form n blocks gives op ≡ true → IsForm op
-form-is n blocks gives (Call callee arguments) h =
+pub form-is : (n blocks : ℕ) (gives : Ty) (op : Op) → is_form n blocks gives op ≡ true → op_limit op ≡ None → IsForm op
+form-is n blocks gives (Call callee arguments) h limit =
     let last = and_parts (is_given gives && nat_lt callee 1024 && nat_le (length arguments) 8) (are_arguments n arguments) h in
     leb-true (length arguments) 8 (and_parts (is_given gives && nat_lt callee 1024) (nat_le (length arguments) 8) last.0).1
-form-is n blocks gives (Binary op flags a b) h = tt
-form-is n blocks gives (Icmp pred flags of a b) h = tt
-form-is n blocks gives (Cast op flags of a) h = tt
-form-is n blocks gives (Select c a b) h = tt
-form-is n blocks gives (Freeze a) h = tt
-form-is n blocks gives (Phi pairs) h = tt
-form-is n blocks gives (Ret answer) h = tt
-form-is n blocks gives (Br to) h = tt
-form-is n blocks gives (CondBr condition if_true if_false) h = tt
-form-is n blocks gives Unreachable h = tt
-form-is n blocks gives (Alloca of count) h = absurd (let bad : ⊥ = cc in bad)
-form-is n blocks gives (Load a) h = tt
-form-is n blocks gives (Store of a b) h = tt
-form-is n blocks gives (Gep of a indices) h = absurd (let bad : ⊥ = cc in bad)
-form-is n blocks gives (CallBuiltIn which arguments) h = absurd (let bad : ⊥ = cc in bad)
-form-is n blocks gives (Switch of a otherwise cases) h = tt
+form-is n blocks gives (Binary op flags a b) h limit = tt
+form-is n blocks gives (Icmp pred flags of a b) h limit = tt
+form-is n blocks gives (Cast op flags of a) h limit = tt
+form-is n blocks gives (Select c a b) h limit = tt
+form-is n blocks gives (Freeze a) h limit = tt
+form-is n blocks gives (Phi pairs) h limit = tt
+form-is n blocks gives (Ret answer) h limit = tt
+form-is n blocks gives (Br to) h limit = tt
+form-is n blocks gives (CondBr condition if_true if_false) h limit = tt
+form-is n blocks gives Unreachable h limit = tt
+form-is n blocks gives (Alloca of count) h limit = tt
+form-is n blocks gives (Load a) h limit = tt
+form-is n blocks gives (Store of a b) h limit = tt
+form-is n blocks gives (Gep of a indices) h limit =
+    ((and_parts (is_width gives && is_operand n a && are_indices n indices) (is_path of indices) h).1, small-pieces of indices (type_within of limit))
+form-is n blocks gives (CallBuiltIn which arguments) h limit = λ no-bytes. by_kind (moves_bytes which) no-bytes (and_parts (is_built_in gives (moves_bytes which) arguments) (are_arguments n arguments) h).0
+  where
+    by_kind : (b : Bool) → b ≡ false → is_built_in gives b arguments ≡ true → length arguments ≡ 2
+    by_kind true e h = absurd (let bad : true ≡ false = e in cc)
+    by_kind false e h = eqb-true (length arguments) 2 (and_parts (is_width gives) (length arguments == 2) h).1
+form-is n blocks gives (Switch of a otherwise cases) h limit = tt
 
 -- the first of the types, or of the arguments, that are left
 pub width_first : (tys : List Ty) (i : ℕ) (d : Ty) → i < length tys → are_widths (drop i tys) ≡ true → (is_width (get_or tys i d) ≡ true) × (are_widths (drop (i + 1) tys) ≡ true)
@@ -174,68 +188,95 @@ no-phis : (insts : List Inst) → has_no_phi insts ≡ true → phis insts ≡ [
 no-phis [] h = refl
 no-phis (inst ∷ insts) h = first-other inst.gives insts inst.op (and_parts (not (is_phi inst.op)) (has_no_phi insts) h).0
 
-headless-none : (insts : List Inst) → is_headless insts ≡ true → phis insts ≡ []
-headless-none [] h = refl
-headless-none (inst ∷ insts) h = first-other inst.gives insts inst.op h
+-- instructions begin with no phi where their first is none
+pub plain_head : (insts : List Inst) → begins_plainly insts ≡ is_headless (phis insts)
+plain_head [] = refl
+plain_head (inst ∷ insts) = by_op inst.op
+  where
+    by_op : (op : Op) → not (is_phi op) ≡ is_headless (phis (record { gives = inst.gives; op = op } ∷ insts))
+    by_op (Phi pairs) = refl
+    by_op (Binary op flags a b) = refl
+    by_op (Icmp pred flags of a b) = refl
+    by_op (Cast op flags of a) = refl
+    by_op (Select c a b) = refl
+    by_op (Freeze a) = refl
+    by_op (Alloca of count) = refl
+    by_op (Load a) = refl
+    by_op (Store of a b) = refl
+    by_op (Gep of a indices) = refl
+    by_op (Call g arguments) = refl
+    by_op (CallBuiltIn which arguments) = refl
+    by_op (Ret a) = refl
+    by_op (Br to) = refl
+    by_op (CondBr c x y) = refl
+    by_op (Switch of a otherwise cases) = refl
+    by_op Unreachable = refl
 
-headless-are : (function : Function) (cases : List (ℕ × ℕ)) → are_headless function cases ≡ true → AreHeadless function cases
-headless-are function [] h = tt
-headless-are function (one ∷ cases) h =
-    let parts = and_parts (is_headless (insts_at function one.1)) (are_headless function cases) h in
-    (headless-none (insts_at function one.1) parts.0, headless-are function cases parts.1)
+-- ---- units and labels
 
-headless-is : (function : Function) (op : Op) → leads_on function op ≡ true → IsHeadless function op
-headless-is function (Switch of a otherwise cases) h = headless-are function cases h
-headless-is function (Binary op flags a b) h = tt
-headless-is function (Icmp pred flags of a b) h = tt
-headless-is function (Cast op flags of a) h = tt
-headless-is function (Select c a b) h = tt
-headless-is function (Freeze a) h = tt
-headless-is function (Phi pairs) h = tt
-headless-is function (Alloca of count) h = tt
-headless-is function (Load a) h = tt
-headless-is function (Store of a b) h = tt
-headless-is function (Gep of a indices) h = tt
-headless-is function (Call g arguments) h = tt
-headless-is function (CallBuiltIn which arguments) h = tt
-headless-is function (Ret a) h = tt
-headless-is function (Br to) h = tt
-headless-is function (CondBr c x y) h = tt
-headless-is function Unreachable h = tt
+edges-units : (insts : List Inst) → edges_in insts ≤ sum_by units insts
+edges-units [] = omega arith
+edges-units (inst ∷ insts) =
+    let one = by_op inst.op in
+    let rest = edges-units insts in
+    let left = sum_by-cons (λ (x : Inst). edges_of x.op) inst insts in
+    let right = sum_by-cons units inst insts in
+    omega (arith, one, rest, left, right)
+  where
+    by_op : (op : Op) → edges_of op ≤ units (record { gives = inst.gives; op = op })
+    by_op (Phi pairs) = omega arith
+    by_op (Binary op flags a b) = omega arith
+    by_op (Icmp pred flags of a b) = omega arith
+    by_op (Cast op flags of a) = omega arith
+    by_op (Select c a b) = omega arith
+    by_op (Freeze a) = omega arith
+    by_op (Alloca of count) = omega arith
+    by_op (Load a) = omega arith
+    by_op (Store of a b) = omega arith
+    by_op (Gep of a indices) = omega arith
+    by_op (Call g arguments) = omega arith
+    by_op (CallBuiltIn which arguments) = omega arith
+    by_op (Ret a) = omega arith
+    by_op (Br to) = omega arith
+    by_op (CondBr c x y) = omega arith
+    by_op (Switch of a otherwise cases) = omega arith
+    by_op Unreachable = omega arith
 
-leads-at : (function : Function) (insts : List Inst) (k : ℕ) (inst : Inst) → all_lead function insts ≡ true → slice_get insts k ≡ Some inst → leads_on function inst.op ≡ true
-leads-at function [] k inst h e = absurd (let bad : ⊥ = cc in bad)
-leads-at function (x ∷ xs) zero inst h e =
-    let same : x ≡ inst = cc in
-    subst (λ (y : Inst). leads_on function y.op ≡ true) same (and_parts (leads_on function x.op) (all_lead function xs) h).0
-leads-at function (x ∷ xs) (suc k) inst h e = leads-at function xs k inst (and_parts (leads_on function x.op) (all_lead function xs) h).1 e
+few-units : (functions : List Function) (symbol : ℕ) (function : Function) → functions_limit functions ≡ None → slice_get functions symbol ≡ Some function → sum_by units (instructions function.blocks) ≤ 16384
+few-units [] symbol function h e = absurd (let bad : ⊥ = cc in bad)
+few-units (f ∷ fs) zero function h e =
+    let same : f ≡ function = cc in
+    let limits = or_none_right (above Parameters 8 (length f.params)) _ (or_none_left (function_limit f) _ h) in
+    subst (λ (g : Function). sum_by units (instructions g.blocks) ≤ 16384) same (within Units 16384 (sum_by units (instructions f.blocks)) (or_none_left _ _ limits))
+few-units (f ∷ fs) (suc symbol) function h e = few-units fs symbol function (or_none_right (function_limit f) _ h) e
 
-block-leads : (function : Function) (blocks : List Block) (k : ℕ) → blocks_lead function blocks ≡ true → all_lead function (insts_of (slice_get blocks k)) ≡ true
-block-leads function [] k h = refl
-block-leads function (block ∷ blocks) zero h = (and_parts (all_lead function block.insts) (blocks_lead function blocks) h).0
-block-leads function (block ∷ blocks) (suc k) h = block-leads function blocks k (and_parts (all_lead function block.insts) (blocks_lead function blocks) h).1
+take-all : (blocks : List Block) → take (length blocks) blocks ≡ blocks
+take-all [] = refl
+take-all (b ∷ bs) = ap (λ (xs : List Block). b ∷ xs) (take-all bs)
+
+label-sum : (function : Function) → label_count function ≡ length function.blocks + edges_in (instructions function.blocks)
+unfolding block_label
+label-sum function = ap (λ (bs : List Block). length function.blocks + edges_in (instructions bs)) (take-all function.blocks)
 
 -- ---- a function
 
 pub record Taken (function : Function) : Type 0 where
   pub widths : are_widths function.params ≡ true
   pub params : length function.params ≤ 8
-  pub few : values function ≤ 59
+  pub few : values function ≤ 32764
   pub blocks : length function.blocks ≤ 16384
   pub forms : are_blocks (values function) (length function.blocks) function.blocks ≡ true
-  pub leads : blocks_lead function function.blocks ≡ true
 
 pub taken-parts : (function : Function) → is_taken function ≡ true → Taken function
 taken-parts function h =
-    let z = and_parts (are_widths function.params && nat_le (length function.params) 8 && nat_le (values function) 59 && nat_le (length function.blocks) 16384 && are_blocks (values function) (length function.blocks) function.blocks) (blocks_lead function function.blocks) h in
-    let a = and_parts (are_widths function.params && nat_le (length function.params) 8 && nat_le (values function) 59 && nat_le (length function.blocks) 16384) (are_blocks (values function) (length function.blocks) function.blocks) z.0 in
-    let b = and_parts (are_widths function.params && nat_le (length function.params) 8 && nat_le (values function) 59) (nat_le (length function.blocks) 16384) a.0 in
-    let c = and_parts (are_widths function.params && nat_le (length function.params) 8) (nat_le (values function) 59) b.0 in
+    let a = and_parts (are_widths function.params && nat_le (length function.params) 8 && nat_le (values function) 32764 && nat_le (length function.blocks) 16384) (are_blocks (values function) (length function.blocks) function.blocks) h in
+    let b = and_parts (are_widths function.params && nat_le (length function.params) 8 && nat_le (values function) 32764) (nat_le (length function.blocks) 16384) a.0 in
+    let c = and_parts (are_widths function.params && nat_le (length function.params) 8) (nat_le (values function) 32764) b.0 in
     let d = and_parts (are_widths function.params) (nat_le (length function.params) 8) c.0 in
-    record { widths = d.0; params = leb-true _ _ d.1; few = leb-true _ _ c.1; blocks = leb-true _ _ b.1; forms = a.1; leads = z.1 }
+    record { widths = d.0; params = leb-true _ _ d.1; few = leb-true _ _ c.1; blocks = leb-true _ _ b.1; forms = a.1 }
 
-pub flow-of : (function : Function) → is_taken function ≡ true → misshapen function ≡ None → IsFlow function
-flow-of function h shape =
+pub flow-of : (function : Function) → is_taken function ≡ true → misshapen function ≡ None → AreLimited function → IsFlow function
+flow-of function h shape limited =
     let t = taken-parts function h in
     let s = shape-of function shape in
     let few = t.few in
@@ -245,8 +286,7 @@ flow-of function h shape =
       frames = omega (arith, few);
       entry = entry s.1 (slice_get function.blocks 0) refl;
       forms = λ block place inst at. form-is (values function) (length function.blocks) inst.gives inst.op
-          (forms-at (values function) (length function.blocks) (insts_at function block) place inst (blocks-at (values function) (length function.blocks) function.blocks block t.forms) at);
-      headless = λ block place inst at. headless-is function inst.op (leads-at function (insts_at function block) place inst (block-leads function function.blocks block t.leads) at);
+          (forms-at (values function) (length function.blocks) (insts_at function block) place inst (blocks-at (values function) (length function.blocks) function.blocks block t.forms) at) (limited block place inst at);
       ends = λ block place inst at is-jump. ends s.1 block (slice_get function.blocks block) refl place inst at is-jump;
     }
   where
@@ -274,20 +314,30 @@ taken-at (f ∷ fs) zero function h e =
 taken-at (f ∷ fs) (suc symbol) function h e = taken-at fs symbol function (and_parts (is_taken f) (are_taken fs) h).1 e
 
 pub flow-at : (program : Program) (symbol : ℕ) (function : Function) → refusal program.module_ ≡ None → are_taken program.module_.functions ≡ true → function_at program symbol ≡ Some function
-    → IsFlow function × (is_taken function ≡ true)
+    → IsFlow function × (is_taken function ≡ true) × AreLimited function
 flow-at program symbol function rows taken there =
     let one = taken-at program.module_.functions symbol function taken there in
-    (flow-of function one (every_at (λ (f : Function). misshapen f ≡ None) program.module_.functions symbol function (shaped program.module_ rows) there), one)
+    let limited = limited-at program.module_ symbol function rows there in
+    (flow-of function one (every_at (λ (f : Function). misshapen f ≡ None) program.module_.functions symbol function (shaped program.module_ rows) there) limited, one, limited)
+
+-- a function of a module that passed the verifier has few labels, where it is taken
+pub few-labels : (program : Program) (symbol : ℕ) (function : Function) → refusal program.module_ ≡ None → is_taken function ≡ true → function_at program symbol ≡ Some function → label_count function ≤ 32768
+few-labels program symbol function rows taken there =
+    let units' = few-units program.module_.functions symbol function (functions_pass program.module_ (no_limit program.module_ rows)) there in
+    let edges = edges-units (instructions function.blocks) in
+    let sum = label-sum function in
+    let blocks = (taken-parts function taken).blocks in
+    omega (arith, units', edges, sum, blocks)
 
 pub found : (program : Program) (symbol : ℕ) (function : Function) → symbol < length program.module_.functions → function ≡ get_or program.module_.functions symbol function → function_at program symbol ≡ Some function
 found program symbol function lt e = slice_get_read program.module_.functions (length program.module_.functions) symbol function refl lt e
 
-pub quick-words : (program : Program) (symbol : ℕ) (function : Function) (words : List ℕ) → function_at program symbol ≡ Some function → IsAssembly (code_of program.module_.globals symbol function) words → AreQuickWords program symbol words
+pub quick-words : (program : Program) (symbol : ℕ) (function : Function) (words : List ℕ) → function_at program symbol ≡ Some function → IsAssembly (code_of program.module_.globals symbol function program.room) words → AreQuickWords program symbol words
 quick-words program symbol function words there made =
-    subst (AreWordsOf program.module_.globals symbol words) (sym there) made
+    subst (AreWordsOf program.module_.globals program.room symbol words) (sym there) made
 
 -- a function that is taken has few values and blocks
-pub few_values : (function : Function) → is_taken function ≡ true → values function ≤ 59
+pub few_values : (function : Function) → is_taken function ≡ true → values function ≤ 32764
 few_values function h = (taken-parts function h).few
 
 pub few_blocks : (function : Function) → is_taken function ≡ true → length function.blocks ≤ 16384

@@ -1,23 +1,28 @@
 -- Code behind code.
-use Rattle.std.proofs.Common.{◌≡◌, refl, sym, ap, ◌∙◌, ℕ, zero, suc, ◌+◌, ◌<◌, ◌≤◌, List, [], ◌∷◌, ◌++◌, length, get_or, map, Option, Some, None, cond, arith, append_assoc}
+use Rattle.std.proofs.Common.{◌≡◌, ◌≢◌, refl, sym, ap, ap₂, ◌∙◌, ℕ, zero, suc, ◌+◌, ◌-◌, ◌<◌, ◌≤◌, List, [], ◌∷◌, ◌++◌, length, get_or, map, Option, Some, None, cond, arith, append_assoc}
 use Rattle.std.specs.Prelude.{drop, pos, slice_set, replicate}
 use Rattle.std.proofs.Math.Seq.{drop-cons}
 use Rattle.std.proofs.lemmas.List.{length-append, append-nil}
 use Rattle.ir_core.specs.declared.types.Ty.{Ty}
 use Rattle.ir_core.specs.declared.code.Operand.{Operand}
+use Rattle.rv_core.specs.Instr.{IsValid, AreValid}
+use Rattle.ir_core.specs.declared.code.BuiltIn.{BuiltIn}
+use Rattle.ir_core.specs.declared.code.BuiltIn.TheVariants.{MemCpy, MemMove, MemSet, SMax, SMin, UMax, UMin, Abs}
 use Rattle.rv_core.specs.declared.instr.Instr.{Instr}
 use Rattle.rv_asm.specs.declared.item.Item.{Item as Assembled}
 use Rattle.rv_asm.specs.declared.item.Item.TheVariants as asm
 use Rattle.rv_asm.specs.Code.{Code}
 use Rattle.rv_asm.specs.Constant as constant
 use Rattle.rv_core.specs.declared.reg.Reg.{Reg}
+use Rattle.rv_core.specs.declared.reg.Reg.TheVariants.{X0, Ra, T0, T1, T2}
+use Rattle.rv_core.specs.declared.instr.BranchOp.TheVariants.{Bgeu}
 use Rattle.rv_core.specs.declared.instr.ImmOp.TheVariants.{Addi, Slli}
-use Rattle.rv_core.specs.declared.instr.Instr.TheVariants.{Imm}
+use Rattle.rv_core.specs.declared.instr.Instr.TheVariants.{Lui, Branch, Imm, Ecall}
 use Rattle.ir_meaning.specs.Operators.{width}
 use Rattle.ir_core.specs.declared.program.Global.{Global}
-use Rattle.fast_isel.specs.Code.{argument_reg, store_value, const_code, word_code, is_word, high_part, add_low}
+use Rattle.fast_isel.specs.Code.{argument_reg, store_value, store_at, lowered_code, lower_sp, prologue, const_code, word_code, is_word, high_part, add_low}
 use Rattle.fast_isel.specs.Narrow.{zero_extended}
-use Rattle.fast_isel.specs.Operations.{value_code, values_code}
+use Rattle.fast_isel.specs.Operations.{value_code, values_code, built_in_operands}
 use Rattle.fast_isel.specs.Blocks.{Item, Plain, Bind, Goto, Test, plain, arguments_code}
 use Rattle.fast_isel.specs.Assembly.{assembled, bind_all, put, labelled}
 use Rattle.quick_blocks.specs.Written.{put_code}
@@ -154,22 +159,18 @@ args_more globals code one total arguments i p d lt h e =
     (ap (λ (k : ℕ). put_code code (value_code globals (argument_reg p) (get_or arguments i d).1 ++ values_code globals (10 + p + 1) (seconds (drop k arguments)))) (let z : i + 1 ≡ suc i = omega arith in z)
     ∙ ap (λ (xs : List (Ty × Operand)). put_code code (values_code globals (10 + p) (seconds xs))) (sym (drop-cons arguments i d lt)) ∙ h) e
 
-split : (xs : List Instr) (x : Instr) (ys : List Instr) → xs ++ x ∷ ys ≡ (xs ++ x ∷ []) ++ ys
-split [] x ys = refl
-split (y ∷ xs) x ys = ap (λ (zs : List Instr). y ∷ zs) (split xs x ys)
-
 pub params_done : (code total : Code) (tys : List Ty) (i p : ℕ) → length tys ≤ i → put_code code (arguments_code p (drop i tys)) ≡ total → code ≡ total
 params_done code total tys i p le h = sym (code_none code) ∙ ap (λ (xs : List Ty). put_code code (arguments_code p xs)) (sym (drop-past tys i le)) ∙ h
 
 pub params_more : (code one total : Code) (tys : List Ty) (i p : ℕ) (d : Ty) → i < length tys → put_code code (arguments_code p (drop i tys)) ≡ total
-    → one ≡ put_code code (zero_extended (width (get_or tys i d)) (argument_reg p) ++ store_value (argument_reg p) p ∷ []) → put_code one (arguments_code (p + 1) (drop (i + 1) tys)) ≡ total
+    → one ≡ put_code code (zero_extended (width (get_or tys i d)) (argument_reg p) ++ store_value (argument_reg p) p) → put_code one (arguments_code (p + 1) (drop (i + 1) tys)) ≡ total
 params_more code one total tys i p d lt h e =
     let ty = get_or tys i d in
     let cut = zero_extended (width ty) (argument_reg p) in
     let store = store_value (argument_reg p) p in
-    more_code code one total (cut ++ store ∷ []) (arguments_code (p + 1) (drop (i + 1) tys))
-    (ap (put_code code) (sym (split cut store (arguments_code (p + 1) (drop (i + 1) tys))))
-    ∙ ap (λ (k : ℕ). put_code code (cut ++ store ∷ arguments_code (p + 1) (drop k tys))) (let z : i + 1 ≡ suc i = omega arith in z)
+    more_code code one total (cut ++ store) (arguments_code (p + 1) (drop (i + 1) tys))
+    (ap (put_code code) (append_assoc cut store (arguments_code (p + 1) (drop (i + 1) tys)))
+    ∙ ap (λ (k : ℕ). put_code code (cut ++ (store ++ arguments_code (p + 1) (drop k tys)))) (let z : i + 1 ≡ suc i = omega arith in z)
     ∙ ap (λ (xs : List Ty). put_code code (arguments_code p xs)) (sym (drop-cons tys i d lt)) ∙ h) e
 
 -- ---- a few operands
@@ -182,3 +183,43 @@ two_values code one new xs ys e f = one_value one new ys f ∙ ap (λ (c : Code)
 
 pub three_values : (code one two new : Code) (xs ys zs : List Instr) → one ≡ put_code code xs → two ≡ put_code one ys → new ≡ put_code two zs → new ≡ put_code code (xs ++ (ys ++ (zs ++ [])))
 three_values code one two new xs ys zs e f g = two_values one two new ys zs f g ∙ ap (λ (c : Code). put_code c (ys ++ (zs ++ []))) e ∙ code_code code xs (ys ++ (zs ++ []))
+
+-- an instruction of a list of valid ones
+pub valid-at : (is : List Instr) (k : ℕ) (d : Instr) → AreValid is → k < length is → IsValid (get_or is k d)
+valid-at [] k d h lt = absurd (omega arith)
+valid-at (i ∷ is) zero d h lt = h.0
+valid-at (i ∷ is) (suc k) d h lt = valid-at is k d h.1 (omega arith)
+
+-- ---- the code that enters
+
+then-code : (code one new : Code) (xs ys : List Instr) → one ≡ put_code code xs → new ≡ put_code one ys → new ≡ put_code code (xs ++ ys)
+then-code code one new xs ys e f = f ∙ ap (λ (c : Code). put_code c ys) e ∙ code_code code xs ys
+
+pub prologue_put : (code one two three new : Code) (symbol frame : ℕ) → one ≡ put_code code (Imm Addi T0 X0 (pos 1) ∷ Imm Addi T1 X0 (pos symbol) ∷ Ecall ∷ []) → two ≡ put_code one (lowered_code frame)
+    → three ≡ put_code two (Lui T2 0x40000 ∷ Branch Bgeu T0 T2 (pos 12) ∷ Imm Addi T0 X0 (pos 2) ∷ Ecall ∷ lower_sp frame ∷ []) → new ≡ put_code three (store_at Ra (frame - 8)) → new ≡ put_code code (prologue symbol frame)
+prologue_put code one two three new symbol frame h1 h2 h3 h4 =
+    let test : List Instr = Lui T2 0x40000 ∷ Branch Bgeu T0 T2 (pos 12) ∷ Imm Addi T0 X0 (pos 2) ∷ Ecall ∷ lower_sp frame ∷ [] in
+    then-code code one new (Imm Addi T0 X0 (pos 1) ∷ Imm Addi T1 X0 (pos symbol) ∷ Ecall ∷ []) (lowered_code frame ++ (test ++ store_at Ra (frame - 8))) h1
+    (then-code one two new (lowered_code frame) (test ++ store_at Ra (frame - 8)) h2 (then-code two three new test (store_at Ra (frame - 8)) h3 h4))
+
+pub five_code : (code a b c d new : Code) (u v w x y : List Instr) → a ≡ put_code code u → b ≡ put_code a v → c ≡ put_code b w → d ≡ put_code c x → new ≡ put_code d y → new ≡ put_code code (u ++ (v ++ (w ++ (x ++ y))))
+five_code code a b c d new u v w x y h1 h2 h3 h4 h5 =
+    then-code code a new u (v ++ (w ++ (x ++ y))) h1 (then-code a b new v (w ++ (x ++ y)) h2 (then-code b c new w (x ++ y) h3 (then-code c d new x y h4 h5)))
+
+-- the operands of a built-in of two arguments
+pub two_arguments : (which : BuiltIn) (arguments : List (Ty × Operand)) (x y : Ty × Operand) → length arguments ≡ 2 → which ≢ Abs → x ≡ get_or arguments 0 x → y ≡ get_or arguments 1 y → x.1 ∷ y.1 ∷ [] ≡ built_in_operands which arguments
+two_arguments which [] x y two ne ex ey = absurd (let bad : ⊥ = omega (arith, two) in bad)
+two_arguments which (a ∷ []) x y two ne ex ey = absurd (let bad : ⊥ = omega (arith, two) in bad)
+two_arguments which (a ∷ b ∷ c ∷ more) x y two ne ex ey = absurd (let bad : ⊥ = omega (arith, two) in bad)
+two_arguments Abs (a ∷ b ∷ []) x y two ne ex ey = absurd (ne refl)
+two_arguments SMax (a ∷ b ∷ []) x y two ne ex ey = ap₂ (λ (p q : Ty × Operand). p.1 ∷ q.1 ∷ []) ex ey
+two_arguments SMin (a ∷ b ∷ []) x y two ne ex ey = ap₂ (λ (p q : Ty × Operand). p.1 ∷ q.1 ∷ []) ex ey
+two_arguments UMax (a ∷ b ∷ []) x y two ne ex ey = ap₂ (λ (p q : Ty × Operand). p.1 ∷ q.1 ∷ []) ex ey
+two_arguments UMin (a ∷ b ∷ []) x y two ne ex ey = ap₂ (λ (p q : Ty × Operand). p.1 ∷ q.1 ∷ []) ex ey
+two_arguments MemCpy (a ∷ b ∷ []) x y two ne ex ey = ap₂ (λ (p q : Ty × Operand). p.1 ∷ q.1 ∷ []) ex ey
+two_arguments MemMove (a ∷ b ∷ []) x y two ne ex ey = ap₂ (λ (p q : Ty × Operand). p.1 ∷ q.1 ∷ []) ex ey
+two_arguments MemSet (a ∷ b ∷ []) x y two ne ex ey = ap₂ (λ (p q : Ty × Operand). p.1 ∷ q.1 ∷ []) ex ey
+
+pub one_argument : (arguments : List (Ty × Operand)) (x : Ty × Operand) → length arguments ≡ 2 → x ≡ get_or arguments 0 x → x.1 ∷ [] ≡ built_in_operands Abs arguments
+one_argument [] x two ex = absurd (let bad : ⊥ = omega (arith, two) in bad)
+one_argument (a ∷ more) x two ex = ap (λ (p : Ty × Operand). p.1 ∷ []) ex

@@ -1,18 +1,19 @@
 -- Which functions of several blocks the compiler takes, as a test.
-use Rattle.std.specs.Prelude.{◌≡◌, ℕ, ◌^◌, Bool, true, false, ◌&&◌, not, nat_lt, nat_le, List, [], ◌∷◌, length, Option, Some, None}
+use Rattle.std.specs.Prelude.{◌≡◌, ℕ, ◌^◌, Bool, true, false, ◌&&◌, ◌==◌, nat_lt, nat_le, List, [], ◌∷◌, length, Option, Some, None}
 use Rattle.ir_core.specs.declared.types.Ty.{Ty}
 use Rattle.ir_core.specs.declared.types.Ty.TheVariants.{Void, Int, Ptr}
 use Rattle.ir_core.specs.declared.code.Operand.{Operand}
 use Rattle.ir_core.specs.declared.code.Operand.TheVariants.{Value as Local, Num, Null, Place, Poison}
 use Rattle.ir_core.specs.declared.code.Op.{Op}
-use Rattle.ir_core.specs.declared.code.Op.TheVariants.{Binary, Icmp, Cast, Select, Freeze, Load, Store, Phi, Call, Ret, Br, CondBr, Switch, Unreachable}
+use Rattle.ir_core.specs.declared.code.Op.TheVariants.{Binary, Icmp, Cast, Select, Freeze, Alloca, Load, Store, Phi, Gep, Call, BuiltIn, Ret, Br, CondBr, Switch, Unreachable}
 use Rattle.ir_core.specs.declared.code.Inst.{Inst}
 use Rattle.ir_core.specs.declared.code.Block.{Block}
 use Rattle.ir_core.specs.declared.program.Function.{Function}
 use Rattle.ir_core.specs.declared.program.Module.{Module}
 use Rattle.ir_core.specs.Units.{is_result, values}
-use Rattle.ir_flow.specs.Code.{is_phi}
-use Rattle.ir_meaning.specs.Step.{insts_at}
+use Rattle.ir_meaning.specs.Operators.{width}
+use Rattle.ir_meaning.specs.Step.{moves_bytes}
+use Rattle.fast_isel.specs.Parts.{is_path}
 
 -- an integer of at most 64 bits, or a pointer
 abbrev pub is_width : Ty → Bool
@@ -29,12 +30,12 @@ abbrev pub is_given : Ty → Bool
 is_given Void = true
 is_given ty = is_width ty
 
--- an operand among n values: one of them, a number of 64 bits, null or poison
+-- an operand among n values: one of them, a number of 64 bits, an address or poison
 abbrev pub is_operand : ℕ → Operand → Bool
 is_operand n (Local number) = nat_lt number n
 is_operand n (Num k) = nat_lt k (2 ^ 64)
 is_operand n Null = true
-is_operand n (Place global offset) = false
+is_operand n (Place global offset) = true
 is_operand n Poison = true
 
 abbrev pub are_edge_operands : ℕ → List (Operand × ℕ) → Bool
@@ -54,6 +55,30 @@ abbrev pub are_cases : ℕ → List (ℕ × ℕ) → Bool
 are_cases blocks [] = true
 are_cases blocks (one ∷ cases) = nat_lt one.0 (2 ^ 64) && nat_lt one.1 blocks && are_cases blocks cases
 
+-- an integer of at most 64 bits
+abbrev pub is_integer : Ty → Bool
+is_integer (Int w) = nat_le 1 w && nat_le w 64
+is_integer _ = false
+
+-- an index among n values: one of them, a number of its width, or poison
+abbrev pub is_index : ℕ → ℕ → Operand → Bool
+is_index n w (Local number) = nat_lt number n
+is_index n w (Num k) = nat_lt k (2 ^ w)
+is_index n w Poison = true
+is_index n w _ = false
+
+abbrev pub is_index_at : ℕ → Ty × Operand → Bool
+is_index_at n index = is_integer index.0 && is_index n (width index.0) index.1
+
+abbrev pub are_indices : ℕ → List (Ty × Operand) → Bool
+are_indices n [] = true
+are_indices n (index ∷ indices) = is_index_at n index && are_indices n indices
+
+-- a built-in that moves bytes, or one that gives a value of two arguments
+abbrev pub is_built_in : Ty → Bool → List (Ty × Operand) → Bool
+is_built_in gives true arguments = true
+is_built_in gives false arguments = is_width gives && length arguments == 2
+
 -- an instruction among n values and so many blocks
 abbrev pub is_form : ℕ → ℕ → Ty → Op → Bool
 is_form n blocks gives (Binary op flags a b) = is_width gives && is_operand n a && is_operand n b
@@ -69,8 +94,10 @@ is_form n blocks gives (Ret answer) = is_answer n answer
 is_form n blocks gives (Br to) = nat_lt to blocks
 is_form n blocks gives (CondBr condition if_true if_false) = is_operand n condition && nat_lt if_true blocks && nat_lt if_false blocks
 is_form n blocks gives (Switch of value otherwise cases) = is_width of && is_operand n value && nat_lt otherwise blocks && are_cases blocks cases
+is_form n blocks gives (Gep ty base indices) = is_width gives && is_operand n base && are_indices n indices && is_path ty indices
 is_form n blocks gives Unreachable = true
-is_form n blocks gives _ = false
+is_form n blocks gives (Alloca of count) = true
+is_form n blocks gives (BuiltIn which arguments) = is_built_in gives (moves_bytes which) arguments && are_arguments n arguments
 
 abbrev pub are_forms : ℕ → ℕ → List Inst → Bool
 are_forms n blocks [] = true
@@ -80,32 +107,11 @@ abbrev pub are_blocks : ℕ → ℕ → List Block → Bool
 are_blocks n many [] = true
 are_blocks n many (block ∷ blocks) = are_forms n many block.insts && are_blocks n many blocks
 
--- no case leads to a block that begins with a phi
-abbrev pub is_headless : List Inst → Bool
-is_headless [] = true
-is_headless (inst ∷ insts) = not (is_phi inst.op)
-
-abbrev pub are_headless : Function → List (ℕ × ℕ) → Bool
-are_headless function [] = true
-are_headless function (one ∷ cases) = is_headless (insts_at function one.1) && are_headless function cases
-
-abbrev pub leads_on : Function → Op → Bool
-leads_on function (Switch of value otherwise cases) = are_headless function cases
-leads_on function _ = true
-
-abbrev pub all_lead : Function → List Inst → Bool
-all_lead function [] = true
-all_lead function (inst ∷ insts) = leads_on function inst.op && all_lead function insts
-
-abbrev pub blocks_lead : Function → List Block → Bool
-blocks_lead function [] = true
-blocks_lead function (block ∷ blocks) = all_lead function block.insts && blocks_lead function blocks
-
--- at most eight parameters, 59 values and 16,384 blocks, each instruction has one of the forms, and no case leads to a phi
+-- at most eight parameters, 32,764 values and 16,384 blocks; each instruction has one of the forms
 abbrev pub is_taken : Function → Bool
 is_taken function =
-    are_widths function.params && nat_le (length function.params) 8 && nat_le (values function) 59 && nat_le (length function.blocks) 16384
-    && are_blocks (values function) (length function.blocks) function.blocks && blocks_lead function function.blocks
+    are_widths function.params && nat_le (length function.params) 8 && nat_le (values function) 32764 && nat_le (length function.blocks) 16384
+    && are_blocks (values function) (length function.blocks) function.blocks
 
 abbrev pub are_taken : List Function → Bool
 are_taken [] = true

@@ -1,84 +1,61 @@
 // The code of blocks and functions, as items of an assembler.
 ghost use Rattle.std.specs.Prelude.{◌≡◌, ◌+◌, ◌*◌, ◌<◌, ◌≤◌, [], ◌∷◌, ◌++◌, Some, None, length, drop, slice_get, OnOk, IfOk, true};
-ghost use Rattle.ir_core.specs.Units.{values as value_count, frame, results};
+ghost use Rattle.ir_core.specs.Units.{values as value_count, frame};
 ghost use Rattle.ir_meaning.specs.Step.{insts_at, number_at};
-ghost use Rattle.fast_isel.specs.Blocks.{both_items, op_items, insts_items, block_items, blocks_items, edge_label, block_label};
+ghost use Rattle.fast_isel.specs.Blocks.{both_items, op_items, insts_items, block_items, blocks_items, edges_of, edges_in, edge_label, block_label, label_count};
+ghost use Rattle.fast_isel.specs.Data.{takes_data as takes_data_of};
 ghost use Rattle.fast_isel.specs.Assembly.{put, labelled, code_of as code_of_function};
-ghost use Rattle.quick_blocks.specs.Written.{put_code, given_by, AreFirsts, AreFree};
+ghost use Rattle.ir_limits.specs.Limits.{op_limit};
+ghost use Rattle.quick_blocks.specs.Written.{put_code, given_by, AreLimited, AreStarts, AreFree};
 ghost use Rattle.quick_blocks.specs.Taken.{is_form, is_operand, is_taken};
 ghost use Rattle.fast_isel.specs.Forms.{IsFlow, IsJump};
 
-use crate::jumps::{
-    first_in, insts_in, put_branch, put_label, put_last_edge, put_phis, put_switch,
-};
+use crate::allocas::{put_alloca, put_save, takes_data};
+use crate::built_ins::put_built_in;
+use crate::jumps::{put_branch, put_label, put_last_edge, put_phis};
 use crate::operations::{
     put_binary, put_cast, put_choice, put_compare, put_load, put_same, put_store,
 };
+use crate::parts::put_part;
 use crate::pieces::{put_call, put_parameters, put_prologue, put_return};
+use crate::places::Places;
+use crate::starts::{Start, first_in, insts_in, label_in, starts_of};
+use crate::switches::put_switch;
 use ir_core::code::{Inst, Op, Operand};
-use ir_core::program::{Function, Global as Place};
+use ir_core::program::Function;
 use ir_core::types::Ty;
 use rj_num::NoMemory;
 use rv_asm::asm::Asm;
 use rv_core::instr::BranchOp;
 use std::alloc::Global;
 
-// The number of the first value of each block.
-#[tactic(auto, using(crate::proofs::Forms::few_params, crate::proofs::Forms::few_blocks, crate::proofs::Counts::first_zero))]
-fn first_numbers(alloc: Global, function: &Function) -> Result<Vec<u32>, NoMemory>
-    requires { is_taken function.now ≡ true }
-    ensures { IfOk result (λ firsts. AreFirsts function.now firsts.items) }
-{
-    let mut firsts = Vec::new(alloc);
-    let mut value = function.params.len() as u32;
-    for block in 0..function.blocks.len() as u32 {
-        append(&mut firsts, value)?;
-        value += results_in(insts_in(function, block));
-    }
-    Ok(firsts)
-}
-
-fn append(numbers: &mut Vec<u32>, number: u32) -> Result<(), NoMemory>
-    ensures { OnOk result (numbers.new.items ≡ numbers.old.items ++ number ∷ []) }
-{
-    numbers.push(number).map_err(|_| NoMemory)
-}
-
-// How many of these instructions have a result.
-fn results_in(insts: &[Inst]) -> u32
-    requires { results insts.now ≤ 59 }
-    ensures { result ≡ results insts.now }
-{
-    let mut count = 0;
-    for inst in insts {
-        if inst.gives != Ty::Void {
-            count += 1;
-        }
-    }
-    count
-}
-
 // An instruction of a block, which gives the value of that number where it has a result.
 #[tactic(auto, using(crate::proofs::Forms::few_values, crate::proofs::Put::put_none))]
 fn put_inst(
     asm: &mut Asm,
     alloc: Global,
-    globals: &[Place],
+    globals: &Places,
     function: &Function,
-    firsts: &[u32],
+    room: u64,
+    takes: bool,
+    starts: &[Start],
     block: u32,
     inst: &Inst,
     value: u32,
     values: u32,
 ) -> Result<(), NoMemory>
+    requires room { room ≤ 67108864 }
+    requires takes { takes ≡ takes_data_of function.now }
     requires taken { is_taken function.now ≡ true }
-    requires firsts { AreFirsts function.now firsts.now }
+    requires starts { AreStarts function.now starts.now }
     requires block { block < length function.now.blocks }
     requires form { is_form values (length function.now.blocks) inst.now.gives inst.now.op ≡ true }
+    requires limit { op_limit inst.now.op ≡ None }
     requires value { value ≤ values }
     requires values { values ≡ value_count function.now }
-    requires free { IsJump inst.now.op → slice_get asm.old.bound (edge_label block) ≡ Some None }
-    ensures { OnOk result (asm.new ≡ put asm.old (op_items globals.now function.now (frame function.now) block value inst.now.gives inst.now.op)) }
+    requires edges { edges_of inst.now.op ≤ edges_in (insts_at function.now block) }
+    requires free { IsJump inst.now.op → AreFree function.now (edge_label function.now block) asm.old }
+    ensures { OnOk result (asm.new ≡ put asm.old (op_items globals.now function.now room (frame function.now) block value inst.now.gives inst.now.op)) }
 {
     match &inst.op {
         Op::Binary(op, flags, a, b) => {
@@ -113,8 +90,39 @@ fn put_inst(
             put_load(asm, alloc, globals, inst.gives, *address, value, values)?;
             Ok(())
         }
+        Op::Alloca(of, count) => {
+            put_alloca(asm, alloc, room, of, *count, value)?;
+            Ok(())
+        }
         Op::Store(ty, a, address) => {
             put_store(asm, alloc, globals, *ty, *a, *address, values)?;
+            Ok(())
+        }
+        Op::Gep(of, base, indices) => {
+            put_part(
+                asm,
+                alloc,
+                globals,
+                inst.gives,
+                of,
+                *base,
+                indices.as_slice(),
+                value,
+                values,
+            )?;
+            Ok(())
+        }
+        Op::BuiltIn(which, arguments) => {
+            put_built_in(
+                asm,
+                alloc,
+                globals,
+                inst.gives,
+                *which,
+                arguments.as_slice(),
+                value,
+                values,
+            )?;
             Ok(())
         }
         Op::Call(callee, arguments) => {
@@ -124,16 +132,16 @@ fn put_inst(
             Ok(())
         }
         Op::Ret(answer) => {
-            put_return(asm, alloc, globals, *answer, values)?;
+            put_return(asm, alloc, globals, takes, *answer, values)?;
             Ok(())
         }
         Op::Br(to) => {
-            put_last_edge(asm, alloc, globals, function, firsts, block, *to, values)?;
+            put_last_edge(asm, alloc, globals, function, starts, block, *to, values)?;
             Ok(())
         }
         Op::CondBr(condition, if_true, if_false) => {
             put_both_edges(
-                asm, alloc, globals, function, firsts, block, *condition, *if_true, *if_false,
+                asm, alloc, globals, function, starts, block, *condition, *if_true, *if_false,
                 values,
             )?;
             Ok(())
@@ -144,7 +152,7 @@ fn put_inst(
                 alloc,
                 globals,
                 function,
-                firsts,
+                starts,
                 block,
                 *value,
                 *otherwise,
@@ -162,9 +170,9 @@ fn put_inst(
 fn put_both_edges(
     asm: &mut Asm,
     alloc: Global,
-    globals: &[Place],
+    globals: &Places,
     function: &Function,
-    firsts: &[u32],
+    starts: &[Start],
     block: u32,
     condition: Operand,
     if_true: u32,
@@ -172,13 +180,13 @@ fn put_both_edges(
     values: u32,
 ) -> Result<(), NoMemory>
     requires taken { is_taken function.now ≡ true }
-    requires firsts { AreFirsts function.now firsts.now }
+    requires starts { AreStarts function.now starts.now }
     requires block { block < length function.now.blocks }
     requires condition { is_operand values condition ≡ true }
     requires if_true { if_true < length function.now.blocks }
     requires if_false { if_false < length function.now.blocks }
     requires values { values ≡ value_count function.now }
-    requires free { slice_get asm.old.bound (edge_label block) ≡ Some None }
+    requires free { slice_get asm.old.bound (edge_label function.now block) ≡ Some None }
     ensures { OnOk result (asm.new ≡ put asm.old (both_items globals.now function.now block condition if_true if_false)) }
 {
     if if_false == block + 1 {
@@ -187,7 +195,7 @@ fn put_both_edges(
             alloc,
             globals,
             function,
-            firsts,
+            starts,
             block,
             BranchOp::Beq,
             condition,
@@ -201,7 +209,7 @@ fn put_both_edges(
             alloc,
             globals,
             function,
-            firsts,
+            starts,
             block,
             BranchOp::Bne,
             condition,
@@ -217,9 +225,11 @@ fn put_both_edges(
 fn put_insts(
     asm: &mut Asm,
     alloc: Global,
-    globals: &[Place],
+    globals: &Places,
     function: &Function,
-    firsts: &[u32],
+    room: u64,
+    takes: bool,
+    starts: &[Start],
     block: u32,
     place: u32,
     insts: &[Inst],
@@ -227,19 +237,22 @@ fn put_insts(
     values: u32,
 ) -> Result<(), NoMemory>
     requires flow { IsFlow function.now }
+    requires room { room ≤ 67108864 }
+    requires takes { takes ≡ takes_data_of function.now }
+    requires limited { AreLimited function.now }
     requires taken { is_taken function.now ≡ true }
-    requires firsts { AreFirsts function.now firsts.now }
+    requires starts { AreStarts function.now starts.now }
     requires block { block < length function.now.blocks }
     requires insts { insts.now ≡ drop place (insts_at function.now block) }
     requires first { first ≡ number_at function.now block place }
     requires values { values ≡ value_count function.now }
-    requires free { AreFree function.now (edge_label block) asm.old }
-    ensures { OnOk result (asm.new ≡ put asm.old (insts_items globals.now function.now (frame function.now) block place insts.now)) }
+    requires free { AreFree function.now (edge_label function.now block) asm.old }
+    ensures { OnOk result (asm.new ≡ put asm.old (insts_items globals.now function.now room (frame function.now) block place insts.now)) }
 {
     let mut value = first;
     for inst in insts {
         put_inst(
-            asm, alloc, globals, function, firsts, block, inst, value, values,
+            asm, alloc, globals, function, room, takes, starts, block, inst, value, values,
         )?;
         value = number_behind(inst, value);
     }
@@ -248,7 +261,7 @@ fn put_insts(
 
 // The number of the next value behind an instruction.
 fn number_behind(inst: &Inst, value: u32) -> u32
-    requires { value ≤ 59 }
+    requires { value ≤ 32764 }
     ensures { result ≡ value + given_by inst.now }
 {
     if inst.gives != Ty::Void {
@@ -263,30 +276,37 @@ fn number_behind(inst: &Inst, value: u32) -> u32
 fn put_block(
     asm: &mut Asm,
     alloc: Global,
-    globals: &[Place],
+    globals: &Places,
     function: &Function,
-    firsts: &[u32],
+    room: u64,
+    takes: bool,
+    starts: &[Start],
     block: u32,
     values: u32,
 ) -> Result<(), NoMemory>
     requires flow { IsFlow function.now }
+    requires room { room ≤ 67108864 }
+    requires takes { takes ≡ takes_data_of function.now }
+    requires limited { AreLimited function.now }
     requires taken { is_taken function.now ≡ true }
-    requires firsts { AreFirsts function.now firsts.now }
+    requires starts { AreStarts function.now starts.now }
     requires block { block < length function.now.blocks }
     requires values { values ≡ value_count function.now }
-    requires free { AreFree function.now (block_label block) asm.old }
-    ensures { OnOk result (asm.new ≡ put asm.old (block_items globals.now function.now (frame function.now) block)) }
+    requires free { AreFree function.now (block_label function.now block) asm.old }
+    ensures { OnOk result (asm.new ≡ put asm.old (block_items globals.now function.now room (frame function.now) block)) }
 {
     let insts = insts_in(function, block);
-    let first = first_in(function, firsts, block);
-    put_label(asm, 2 * block);
+    let first = first_in(function, starts, block);
+    put_label(asm, label_in(function, starts, block));
     let heads = put_phis(asm, alloc, function, block, insts, first, values)?;
     put_insts(
         asm,
         alloc,
         globals,
         function,
-        firsts,
+        room,
+        takes,
+        starts,
         block,
         heads,
         &insts[heads as usize..],
@@ -301,20 +321,27 @@ fn put_block(
 fn put_blocks(
     asm: &mut Asm,
     alloc: Global,
-    globals: &[Place],
+    globals: &Places,
     function: &Function,
-    firsts: &[u32],
+    room: u64,
+    takes: bool,
+    starts: &[Start],
     values: u32,
 ) -> Result<(), NoMemory>
     requires flow { IsFlow function.now }
+    requires room { room ≤ 67108864 }
+    requires takes { takes ≡ takes_data_of function.now }
+    requires limited { AreLimited function.now }
     requires taken { is_taken function.now ≡ true }
-    requires firsts { AreFirsts function.now firsts.now }
+    requires starts { AreStarts function.now starts.now }
     requires values { values ≡ value_count function.now }
     requires free { AreFree function.now 0 asm.old }
-    ensures { OnOk result (asm.new ≡ put asm.old (blocks_items globals.now function.now (frame function.now) 0 (length function.now.blocks))) }
+    ensures { OnOk result (asm.new ≡ put asm.old (blocks_items globals.now function.now room (frame function.now) 0 (length function.now.blocks))) }
 {
     for block in 0..function.blocks.len() as u32 {
-        put_block(asm, alloc, globals, function, firsts, block, values)?;
+        put_block(
+            asm, alloc, globals, function, room, takes, starts, block, values,
+        )?;
     }
     Ok(())
 }
@@ -334,27 +361,38 @@ fn with_labels(alloc: Global, labels: u32) -> Result<Asm, NoMemory>
 #[tactic(auto, using(crate::proofs::Forms::few_values, crate::proofs::Forms::few_blocks, crate::proofs::Forms::few_params, crate::proofs::Forms::param_widths))]
 pub fn code_of(
     alloc: Global,
-    globals: &[Place],
+    globals: &Places,
     function: &Function,
+    room: u64,
     symbol: u32,
     values: u32,
 ) -> Result<Asm, NoMemory>
     requires flow { IsFlow function.now }
+    requires limited { AreLimited function.now }
     requires taken { is_taken function.now ≡ true }
+    requires room { room ≤ 67108864 }
+    requires labels { label_count function.now ≤ 32768 }
     requires symbol { symbol < 1024 }
     requires values { values ≡ value_count function.now }
-    ensures { IfOk result (λ asm. asm ≡ code_of_function globals.now symbol function.now) }
+    ensures { IfOk result (λ asm. asm ≡ code_of_function globals.now symbol function.now room) }
 {
-    let firsts = first_numbers(alloc, function)?;
-    let mut asm = with_labels(alloc, 2 * function.blocks.len() as u32)?;
+    let starts = starts_of(alloc, function)?;
+    let mut asm = with_labels(
+        alloc,
+        label_in(function, starts.as_slice(), function.blocks.len() as u32),
+    )?;
+    let takes = takes_data(function);
     put_prologue(&mut asm, alloc, symbol, 128 + 32 * values)?;
+    put_save(&mut asm, alloc, takes, 128 + 32 * values)?;
     put_parameters(&mut asm, alloc, function.params.as_slice())?;
     put_blocks(
         &mut asm,
         alloc,
         globals,
         function,
-        firsts.as_slice(),
+        room,
+        takes,
+        starts.as_slice(),
         values,
     )?;
     Ok(asm)

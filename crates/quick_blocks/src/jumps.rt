@@ -3,37 +3,22 @@ ghost use Rattle.std.specs.Prelude.{◌≡◌, ◌+◌, ◌*◌, ◌<◌, ◌≤
 ghost use Rattle.rv_core.specs.declared.reg.Reg.TheVariants.{T0};
 ghost use Rattle.ir_core.specs.Units.{values as value_count};
 ghost use Rattle.ir_meaning.specs.Step.{insts_at, number_at, on_edge, phis};
-ghost use Rattle.fast_isel.specs.Blocks.{cases_items, switch_items, Goto, Bind, Test, edge_code, edge_items, last_edge_items, branch_items, phis_code, block_label, edge_label};
+ghost use Rattle.fast_isel.specs.Blocks.{Goto, Bind, Test, edge_code, edge_items, last_edge_items, branch_items, phis_code, block_label, edge_label};
 ghost use Rattle.fast_isel.specs.Assembly.{put};
-ghost use Rattle.quick_blocks.specs.Written.{put_code, AreFirsts};
-ghost use Rattle.quick_blocks.specs.Taken.{are_cases, is_operand, are_edge_operands, are_forms, is_taken};
+ghost use Rattle.quick_blocks.specs.Written.{put_code, AreStarts};
+ghost use Rattle.quick_blocks.specs.Taken.{is_operand, are_edge_operands, are_forms, is_taken};
 
 use crate::pieces::{put_next, put_phi, put_value};
+use crate::places::Places;
+use crate::starts::{Start, edge_in, first_in, insts_in, label_in};
 use ir_core::code::{Inst, Op, Operand};
-use ir_core::program::{Function, Global as Place};
+use ir_core::program::Function;
 use rj_num::NoMemory;
 use rv_asm::asm::Asm;
 use rv_asm::item::Label;
 use rv_core::instr::BranchOp;
 use rv_core::reg::Reg;
 use std::alloc::Global;
-
-/// The instructions of a block.
-pub fn insts_in(function: &Function, block: u32) -> &[Inst]
-    requires { block < length function.now.blocks }
-    ensures { result.now ≡ insts_at function.now block }
-{
-    function.blocks.as_slice()[block as usize].insts.as_slice()
-}
-
-/// The number of the first value of a block.
-pub fn first_in(function: &Function, firsts: &[u32], block: u32) -> u32
-    requires firsts { AreFirsts function.now firsts.now }
-    requires block { block < length function.now.blocks }
-    ensures { result ≡ number_at function.now block 0 }
-{
-    firsts[block as usize]
-}
 
 // The operand that a phi has for an edge.
 fn operand_on(from: u32, pairs: &[(Operand, u32)], values: u32) -> Operand
@@ -53,7 +38,7 @@ fn operand_on(from: u32, pairs: &[(Operand, u32)], values: u32) -> Operand
 fn put_nexts(
     asm: &mut Asm,
     alloc: Global,
-    globals: &[Place],
+    globals: &Places,
     function: &Function,
     from: u32,
     to: u32,
@@ -64,7 +49,7 @@ fn put_nexts(
     requires insts { insts.now ≡ insts_at function.now to }
     requires first { first ≡ number_at function.now to 0 }
     requires values { values ≡ value_count function.now }
-    requires few { values ≤ 59 }
+    requires few { values ≤ 32764 }
     requires forms { are_forms values (length function.now.blocks) insts.now ≡ true }
     ensures { OnOk result (asm.new ≡ put_code asm.old (edge_code globals.now function.now from to)) }
 {
@@ -95,7 +80,7 @@ pub fn put_phis(
     requires insts { insts.now ≡ insts_at function.now block }
     requires first { first ≡ number_at function.now block 0 }
     requires values { values ≡ value_count function.now }
-    requires few { values ≤ 59 }
+    requires few { values ≤ 32764 }
     requires forms { are_forms values (length function.now.blocks) insts.now ≡ true }
     ensures code { OnOk result (asm.new ≡ put_code asm.old (phis_code function.now block 0 (phis (insts_at function.now block)))) }
     ensures heads { IfOk result (λ heads. heads ≡ length (phis (insts_at function.now block))) }
@@ -121,8 +106,9 @@ fn put_goto(asm: &mut Asm, alloc: Global, label: u32) -> Result<(), NoMemory>
     asm.jump(alloc, Label { number: label })
 }
 
+/// Branches to a label where a comparison of t0 and another register holds.
 #[tactic(auto, unfolding(fast_isel::specs::Assembly::put))]
-fn put_test(
+pub fn put_test(
     asm: &mut Asm,
     alloc: Global,
     op: BranchOp,
@@ -147,20 +133,20 @@ pub fn put_label(asm: &mut Asm, label: u32)
 fn put_edge(
     asm: &mut Asm,
     alloc: Global,
-    globals: &[Place],
+    globals: &Places,
     function: &Function,
-    firsts: &[u32],
+    starts: &[Start],
     from: u32,
     to: u32,
     values: u32,
 ) -> Result<(), NoMemory>
     requires taken { is_taken function.now ≡ true }
-    requires firsts { AreFirsts function.now firsts.now }
+    requires starts { AreStarts function.now starts.now }
     requires to { to < length function.now.blocks }
     requires values { values ≡ value_count function.now }
     ensures { OnOk result (asm.new ≡ put_code asm.old (edge_code globals.now function.now from to)) }
 {
-    let first = first_in(function, firsts, to);
+    let first = first_in(function, starts, to);
     put_nexts(
         asm,
         alloc,
@@ -174,26 +160,26 @@ fn put_edge(
     )
 }
 
-// An edge in the midst of a block's code.
+/// An edge in the midst of a block's code.
 #[tactic(auto, using(crate::proofs::Forms::few_values, crate::proofs::Forms::few_blocks))]
-fn put_goto_edge(
+pub fn put_goto_edge(
     asm: &mut Asm,
     alloc: Global,
-    globals: &[Place],
+    globals: &Places,
     function: &Function,
-    firsts: &[u32],
+    starts: &[Start],
     from: u32,
     to: u32,
     values: u32,
 ) -> Result<(), NoMemory>
     requires taken { is_taken function.now ≡ true }
-    requires firsts { AreFirsts function.now firsts.now }
+    requires starts { AreStarts function.now starts.now }
     requires to { to < length function.now.blocks }
     requires values { values ≡ value_count function.now }
     ensures { OnOk result (asm.new ≡ put asm.old (edge_items globals.now function.now from to)) }
 {
-    put_edge(asm, alloc, globals, function, firsts, from, to, values)?;
-    put_goto(asm, alloc, 2 * to)?;
+    put_edge(asm, alloc, globals, function, starts, from, to, values)?;
+    put_goto(asm, alloc, label_in(function, starts, to))?;
     Ok(())
 }
 
@@ -202,25 +188,25 @@ fn put_goto_edge(
 pub fn put_last_edge(
     asm: &mut Asm,
     alloc: Global,
-    globals: &[Place],
+    globals: &Places,
     function: &Function,
-    firsts: &[u32],
+    starts: &[Start],
     from: u32,
     to: u32,
     values: u32,
 ) -> Result<(), NoMemory>
     requires taken { is_taken function.now ≡ true }
-    requires firsts { AreFirsts function.now firsts.now }
+    requires starts { AreStarts function.now starts.now }
     requires from { from < length function.now.blocks }
     requires to { to < length function.now.blocks }
     requires values { values ≡ value_count function.now }
     ensures { OnOk result (asm.new ≡ put asm.old (last_edge_items globals.now function.now from to)) }
 {
-    put_edge(asm, alloc, globals, function, firsts, from, to, values)?;
+    put_edge(asm, alloc, globals, function, starts, from, to, values)?;
     if to == from + 1 {
         return Ok(());
     }
-    put_goto(asm, alloc, 2 * to)?;
+    put_goto(asm, alloc, label_in(function, starts, to))?;
     Ok(())
 }
 
@@ -229,9 +215,9 @@ pub fn put_last_edge(
 pub fn put_branch(
     asm: &mut Asm,
     alloc: Global,
-    globals: &[Place],
+    globals: &Places,
     function: &Function,
-    firsts: &[u32],
+    starts: &[Start],
     block: u32,
     op: BranchOp,
     condition: Operand,
@@ -240,85 +226,20 @@ pub fn put_branch(
     values: u32,
 ) -> Result<(), NoMemory>
     requires taken { is_taken function.now ≡ true }
-    requires firsts { AreFirsts function.now firsts.now }
+    requires starts { AreStarts function.now starts.now }
     requires block { block < length function.now.blocks }
     requires condition { is_operand values condition ≡ true }
     requires fails { fails < length function.now.blocks }
     requires holds { holds < length function.now.blocks }
     requires values { values ≡ value_count function.now }
-    requires free { slice_get asm.old.bound (edge_label block) ≡ Some None }
+    requires free { slice_get asm.old.bound (edge_label function.now block) ≡ Some None }
     ensures { OnOk result (asm.new ≡ put asm.old (branch_items globals.now function.now block op condition fails holds)) }
 {
     put_value(asm, alloc, globals, Reg::T0, condition, values)?;
-    put_test(asm, alloc, op, Reg::X0, 2 * block + 1)?;
-    put_goto_edge(asm, alloc, globals, function, firsts, block, fails, values)?;
-    put_label(asm, 2 * block + 1);
-    put_last_edge(asm, alloc, globals, function, firsts, block, holds, values)?;
-    Ok(())
-}
-
-// The test of a case, for a number in t0.
-fn put_case(
-    asm: &mut Asm,
-    alloc: Global,
-    globals: &[Place],
-    number: u128,
-    to: u32,
-) -> Result<(), NoMemory>
-    requires number { number < 2 ^ 64 }
-    requires to { to ≤ 16384 }
-    ensures { OnOk result (asm.new ≡ put asm.old (cases_items globals.now ((number, to) ∷ []))) }
-{
-    put_value(asm, alloc, globals, Reg::T1, Operand::Num(number), 0)?;
-    put_test(asm, alloc, BranchOp::Beq, Reg::T1, 2 * to)?;
-    Ok(())
-}
-
-// The tests of cases, for a number in t0.
-fn put_cases(
-    asm: &mut Asm,
-    alloc: Global,
-    globals: &[Place],
-    blocks: usize,
-    cases: &[(u128, u32)],
-) -> Result<(), NoMemory>
-    requires cases { are_cases blocks cases.now ≡ true }
-    requires few { blocks ≤ 16384 }
-    ensures { OnOk result (asm.new ≡ put asm.old (cases_items globals.now cases.now)) }
-{
-    for case in cases {
-        put_case(asm, alloc, globals, case.0, case.1)?;
-    }
-    Ok(())
-}
-
-/// A switch: the tests of its cases, and the edge to the block where no case holds.
-#[tactic(auto, using(crate::proofs::Forms::few_values, crate::proofs::Forms::few_blocks))]
-pub fn put_switch(
-    asm: &mut Asm,
-    alloc: Global,
-    globals: &[Place],
-    function: &Function,
-    firsts: &[u32],
-    block: u32,
-    value: Operand,
-    otherwise: u32,
-    cases: &[(u128, u32)],
-    values: u32,
-) -> Result<(), NoMemory>
-    requires taken { is_taken function.now ≡ true }
-    requires firsts { AreFirsts function.now firsts.now }
-    requires block { block < length function.now.blocks }
-    requires value { is_operand values value ≡ true }
-    requires otherwise { otherwise < length function.now.blocks }
-    requires cases { are_cases (length function.now.blocks) cases.now ≡ true }
-    requires values { values ≡ value_count function.now }
-    ensures { OnOk result (asm.new ≡ put asm.old (switch_items globals.now function.now block value otherwise cases.now)) }
-{
-    put_value(asm, alloc, globals, Reg::T0, value, values)?;
-    put_cases(asm, alloc, globals, function.blocks.len(), cases)?;
-    put_last_edge(
-        asm, alloc, globals, function, firsts, block, otherwise, values,
-    )?;
+    let label = edge_in(function, starts, block);
+    put_test(asm, alloc, op, Reg::X0, label)?;
+    put_goto_edge(asm, alloc, globals, function, starts, block, fails, values)?;
+    put_label(asm, label);
+    put_last_edge(asm, alloc, globals, function, starts, block, holds, values)?;
     Ok(())
 }

@@ -5,10 +5,10 @@ ghost use Rattle.fast_isel.specs.Operations.{values_code, choice_code, operation
 ghost use Rattle.quick_blocks.specs.Written.{put_code};
 ghost use Rattle.quick_blocks.specs.Taken.{is_width, is_operand};
 
-use crate::pieces::{put_all, put_instr, put_value, store_to, width_of};
+use crate::pieces::{put_all, put_instr, put_store_value, put_value, width_of};
+use crate::places::Places;
 use crate::work::{put_cast_work, put_comparison, put_operator};
 use ir_core::code::{BinOp, CastOp, Flags, Operand, Pred};
-use ir_core::program::Global as Place;
 use ir_core::types::Ty;
 use rj_num::NoMemory;
 use rv_asm::asm::Asm;
@@ -16,34 +16,34 @@ use rv_core::instr::{BranchOp, ImmOp, Instr, LoadOp, StoreOp};
 use rv_core::reg::Reg;
 use std::alloc::Global;
 
-// An operand in t0.
-fn put_one(
+/// An operand in t0.
+pub fn put_one(
     asm: &mut Asm,
     alloc: Global,
-    globals: &[Place],
+    globals: &Places,
     a: Operand,
     values: u32,
 ) -> Result<(), NoMemory>
     requires a { is_operand values a ≡ true }
-    requires values { values ≤ 59 }
+    requires values { values ≤ 32764 }
     ensures { OnOk result (asm.new ≡ put_code asm.old (values_code globals.now 5 (a ∷ []))) }
 {
     put_value(asm, alloc, globals, Reg::T0, a, values)?;
     Ok(())
 }
 
-// Two operands in t0 and t1.
-fn put_two(
+/// Two operands in t0 and t1.
+pub fn put_two(
     asm: &mut Asm,
     alloc: Global,
-    globals: &[Place],
+    globals: &Places,
     a: Operand,
     b: Operand,
     values: u32,
 ) -> Result<(), NoMemory>
     requires a { is_operand values a ≡ true }
     requires b { is_operand values b ≡ true }
-    requires values { values ≤ 59 }
+    requires values { values ≤ 32764 }
     ensures { OnOk result (asm.new ≡ put_code asm.old (values_code globals.now 5 (a ∷ b ∷ []))) }
 {
     put_value(asm, alloc, globals, Reg::T0, a, values)?;
@@ -51,11 +51,11 @@ fn put_two(
     Ok(())
 }
 
-// Three operands in t0, t1 and t2.
-fn put_three(
+/// Three operands in t0, t1 and t2.
+pub fn put_three(
     asm: &mut Asm,
     alloc: Global,
-    globals: &[Place],
+    globals: &Places,
     a: Operand,
     b: Operand,
     c: Operand,
@@ -64,7 +64,7 @@ fn put_three(
     requires a { is_operand values a ≡ true }
     requires b { is_operand values b ≡ true }
     requires c { is_operand values c ≡ true }
-    requires values { values ≤ 59 }
+    requires values { values ≤ 32764 }
     ensures { OnOk result (asm.new ≡ put_code asm.old (values_code globals.now 5 (a ∷ b ∷ c ∷ []))) }
 {
     put_value(asm, alloc, globals, Reg::T0, a, values)?;
@@ -78,7 +78,7 @@ fn put_three(
 pub fn put_binary(
     asm: &mut Asm,
     alloc: Global,
-    globals: &[Place],
+    globals: &Places,
     gives: Ty,
     op: BinOp,
     flags: Flags,
@@ -91,12 +91,12 @@ pub fn put_binary(
     requires a { is_operand values a ≡ true }
     requires b { is_operand values b ≡ true }
     requires value { value ≤ values }
-    requires values { values ≤ 59 }
+    requires values { values ≤ 32764 }
     ensures { OnOk result (asm.new ≡ put_code asm.old (operation_code globals.now gives (Binary op flags a b) value)) }
 {
     put_two(asm, alloc, globals, a, b, values)?;
     put_operator(asm, alloc, op, width_of(gives))?;
-    put_instr(asm, alloc, store_to(Reg::T0, value))
+    put_store_value(asm, alloc, Reg::T0, value)
 }
 
 /// A compare of two operands of a type, which gives this value.
@@ -104,7 +104,7 @@ pub fn put_binary(
 pub fn put_compare(
     asm: &mut Asm,
     alloc: Global,
-    globals: &[Place],
+    globals: &Places,
     gives: Ty,
     pred: Pred,
     flags: Flags,
@@ -118,12 +118,12 @@ pub fn put_compare(
     requires a { is_operand values a ≡ true }
     requires b { is_operand values b ≡ true }
     requires value { value ≤ values }
-    requires values { values ≤ 59 }
+    requires values { values ≤ 32764 }
     ensures { OnOk result (asm.new ≡ put_code asm.old (operation_code globals.now gives (Icmp pred flags of a b) value)) }
 {
     put_two(asm, alloc, globals, a, b, values)?;
     put_comparison(asm, alloc, pred, width_of(of))?;
-    put_instr(asm, alloc, store_to(Reg::T0, value))
+    put_store_value(asm, alloc, Reg::T0, value)
 }
 
 /// A cast of an operand from a type, which gives this value.
@@ -131,7 +131,7 @@ pub fn put_compare(
 pub fn put_cast(
     asm: &mut Asm,
     alloc: Global,
-    globals: &[Place],
+    globals: &Places,
     gives: Ty,
     op: CastOp,
     flags: Flags,
@@ -144,12 +144,12 @@ pub fn put_cast(
     requires from { is_width from ≡ true }
     requires a { is_operand values a ≡ true }
     requires value { value ≤ values }
-    requires values { values ≤ 59 }
+    requires values { values ≤ 32764 }
     ensures { OnOk result (asm.new ≡ put_code asm.old (operation_code globals.now gives (Cast op flags from a) value)) }
 {
     put_one(asm, alloc, globals, a, values)?;
     put_cast_work(asm, alloc, op, width_of(from), width_of(gives))?;
-    put_instr(asm, alloc, store_to(Reg::T0, value))
+    put_store_value(asm, alloc, Reg::T0, value)
 }
 
 // Keeps what stands in t0 where t2 isn't 0, and else takes what stands in t1.
@@ -171,7 +171,7 @@ fn put_chosen(asm: &mut Asm, alloc: Global) -> Result<(), NoMemory>
 pub fn put_choice(
     asm: &mut Asm,
     alloc: Global,
-    globals: &[Place],
+    globals: &Places,
     gives: Ty,
     condition: Operand,
     a: Operand,
@@ -183,12 +183,12 @@ pub fn put_choice(
     requires a { is_operand values a ≡ true }
     requires b { is_operand values b ≡ true }
     requires value { value ≤ values }
-    requires values { values ≤ 59 }
+    requires values { values ≤ 32764 }
     ensures { OnOk result (asm.new ≡ put_code asm.old (operation_code globals.now gives (Select condition a b) value)) }
 {
     put_three(asm, alloc, globals, a, b, condition, values)?;
     put_chosen(asm, alloc)?;
-    put_instr(asm, alloc, store_to(Reg::T0, value))
+    put_store_value(asm, alloc, Reg::T0, value)
 }
 
 /// A freeze of an operand, which gives this value.
@@ -196,7 +196,7 @@ pub fn put_choice(
 pub fn put_same(
     asm: &mut Asm,
     alloc: Global,
-    globals: &[Place],
+    globals: &Places,
     gives: Ty,
     a: Operand,
     value: u32,
@@ -204,11 +204,11 @@ pub fn put_same(
 ) -> Result<(), NoMemory>
     requires a { is_operand values a ≡ true }
     requires value { value ≤ values }
-    requires values { values ≤ 59 }
+    requires values { values ≤ 32764 }
     ensures { OnOk result (asm.new ≡ put_code asm.old (operation_code globals.now gives (Freeze a) value)) }
 {
     put_one(asm, alloc, globals, a, values)?;
-    put_instr(asm, alloc, store_to(Reg::T0, value))
+    put_store_value(asm, alloc, Reg::T0, value)
 }
 
 // The load of a width without a sign.
@@ -239,7 +239,7 @@ fn store_op(width: u32) -> StoreOp
 pub fn put_load(
     asm: &mut Asm,
     alloc: Global,
-    globals: &[Place],
+    globals: &Places,
     gives: Ty,
     address: Operand,
     value: u32,
@@ -248,13 +248,13 @@ pub fn put_load(
     requires gives { is_width gives ≡ true }
     requires address { is_operand values address ≡ true }
     requires value { value ≤ values }
-    requires values { values ≤ 59 }
+    requires values { values ≤ 32764 }
     ensures { OnOk result (asm.new ≡ put_code asm.old (operation_code globals.now gives (Load address) value)) }
 {
     put_one(asm, alloc, globals, address, values)?;
     let op = load_op(width_of(gives));
     put_instr(asm, alloc, Instr::Load(op, Reg::T0, Reg::T0, 0))?;
-    put_instr(asm, alloc, store_to(Reg::T0, value))
+    put_store_value(asm, alloc, Reg::T0, value)
 }
 
 /// A store of an operand of a type at an address.
@@ -262,7 +262,7 @@ pub fn put_load(
 pub fn put_store(
     asm: &mut Asm,
     alloc: Global,
-    globals: &[Place],
+    globals: &Places,
     of: Ty,
     a: Operand,
     address: Operand,
@@ -271,7 +271,7 @@ pub fn put_store(
     requires of { is_width of ≡ true }
     requires a { is_operand values a ≡ true }
     requires address { is_operand values address ≡ true }
-    requires values { values ≤ 59 }
+    requires values { values ≤ 32764 }
     ensures { OnOk result (asm.new ≡ put_code asm.old (keeping_code globals.now of a address)) }
 {
     put_two(asm, alloc, globals, a, address, values)?;

@@ -1,13 +1,15 @@
 // Which functions of several blocks the compiler takes.
-ghost use Rattle.std.specs.Prelude.{◌≡◌, length, All};
+ghost use Rattle.std.specs.Prelude.{◌≡◌, ◌≤◌, length, All, true};
 ghost use Rattle.ir_verify.specs.Small.{IsSmall};
-ghost use Rattle.ir_flow.specs.Code.{is_phi as is_phi_op};
-ghost use Rattle.ir_meaning.specs.Step.{insts_at};
-ghost use Rattle.quick_blocks.specs.Taken.{is_width as is_width_type, are_widths as are_widths_types, is_given as is_given_type, is_operand as is_operand_at, are_edge_operands as are_edge_operands_at, are_arguments as are_arguments_at, is_answer as is_answer_at, are_cases as are_cases_at, is_headless as is_headless_at, are_headless as are_headless_at, leads_on as leads_on_at, all_lead as all_lead_at, blocks_lead as blocks_lead_at, is_form as is_form_at, are_forms as are_forms_at, are_blocks as are_blocks_at, is_taken as is_taken_function, are_taken as are_taken_functions};
+ghost use Rattle.ir_meaning.specs.Step.{moves_bytes as moves_bytes_of};
+ghost use Rattle.fast_isel.specs.Parts.{is_index as is_index_operand, is_literal as is_literal_operand, are_steps as are_steps_of, is_path as is_path_of};
+ghost use Rattle.quick_blocks.specs.Taken.{is_width as is_width_type, are_widths as are_widths_types, is_given as is_given_type, is_operand as is_operand_at, are_edge_operands as are_edge_operands_at, are_arguments as are_arguments_at, is_answer as is_answer_at, are_cases as are_cases_at, is_integer as is_integer_type, is_index as is_index_of, is_index_at as is_index_at_of, are_indices as are_indices_at, is_built_in as is_built_in_of, is_form as is_form_at, are_forms as are_forms_at, are_blocks as are_blocks_at, is_taken as is_taken_function, are_taken as are_taken_functions};
 
-use ir_core::code::{Block, Inst, Op, Operand};
+use crate::moves::moves_bytes;
+use crate::parts::{bits_of, literal};
+use ir_core::code::{Block, BuiltIn, Inst, Op, Operand};
 use ir_core::program::Function;
-use ir_core::types::Ty;
+use ir_core::types::{MemTy, Ty};
 use ir_core::units::values_of;
 use ir_verify::checked::Checked;
 
@@ -42,15 +44,14 @@ fn is_given(ty: Ty) -> bool
     }
 }
 
-// One of so many values, a number of 64 bits, null or poison.
+// One of so many values, a number of 64 bits, an address or poison.
 fn is_operand(values: u32, operand: Operand) -> bool
     ensures { result ≡ is_operand_at values operand }
 {
     match operand {
         Operand::Value(number) => number < values,
         Operand::Num(number) => number < 1 << 64,
-        Operand::Null | Operand::Poison => true,
-        Operand::Place(_, _) => false,
+        Operand::Null | Operand::Place(_, _) | Operand::Poison => true,
     }
 }
 
@@ -97,6 +98,109 @@ fn are_cases(blocks: usize, cases: &[(u128, u32)]) -> bool
     true
 }
 
+fn is_integer(ty: Ty) -> bool
+    ensures { result ≡ is_integer_type ty }
+{
+    match ty {
+        Ty::Int(width) => 1 <= width && width <= 64,
+        _ => false,
+    }
+}
+
+// One of so many values, a number of a width, or poison.
+fn is_index(values: u32, width: u32, operand: Operand) -> bool
+    requires { width ≤ 64 }
+    ensures { result ≡ is_index_of values width operand }
+{
+    match operand {
+        Operand::Value(number) => number < values,
+        Operand::Num(number) => number < 1 << width,
+        Operand::Poison => true,
+        _ => false,
+    }
+}
+
+fn is_index_at(values: u32, index: (Ty, Operand)) -> bool
+    ensures { result ≡ is_index_at_of values index }
+{
+    is_integer(index.0) && is_index(values, bits_of(index.0), index.1)
+}
+
+fn are_indices(values: u32, indices: &[(Ty, Operand)]) -> bool
+    ensures { result ≡ are_indices_at values indices.now }
+{
+    for index in indices {
+        if !is_index_at(values, *index) {
+            return false;
+        }
+    }
+    true
+}
+
+// An index is a value, a literal or poison.
+fn is_number(operand: Operand) -> bool
+    ensures { result ≡ is_index_operand operand }
+{
+    match operand {
+        Operand::Value(_) | Operand::Num(_) | Operand::Poison => true,
+        Operand::Null | Operand::Place(_, _) => false,
+    }
+}
+
+fn is_literal(operand: Operand) -> bool
+    ensures { result ≡ is_literal_operand operand }
+{
+    match operand {
+        Operand::Num(_) => true,
+        _ => false,
+    }
+}
+
+// Indices lead from a type to parts of it, into a struct by a literal.
+fn are_steps(ty: &MemTy, indices: &[(Ty, Operand)], values: u32) -> bool
+    requires { are_indices_at values indices.now ≡ true }
+    ensures { result ≡ are_steps_of indices.now ty.now }
+{
+    let [index, rest @ ..] = indices else {
+        return true;
+    };
+    match ty {
+        MemTy::Int(_) | MemTy::Ptr => false,
+        MemTy::Array(_, element) => is_number(index.1) && are_steps(element.get(), rest, values),
+        MemTy::Struct(fields, _) => {
+            let fields = fields.as_slice();
+            if !is_literal(index.1) {
+                return false;
+            }
+            if fields.len() >= 1 << 32 {
+                return false;
+            }
+            let field = literal(*index, values);
+            if field >= fields.len() as u64 {
+                return true;
+            }
+            are_steps(&fields[field as usize], rest, values)
+        }
+    }
+}
+
+fn is_path(of: &MemTy, indices: &[(Ty, Operand)], values: u32) -> bool
+    requires { are_indices_at values indices.now ≡ true }
+    ensures { result ≡ is_path_of of.now indices.now }
+{
+    let [first, rest @ ..] = indices else {
+        return true;
+    };
+    is_number(first.1) && are_steps(of, rest, values)
+}
+
+// A built-in that moves bytes, or one that gives a value of two arguments.
+fn is_built_in(gives: Ty, which: BuiltIn, arguments: &[(Ty, Operand)]) -> bool
+    ensures { result ≡ is_built_in_of gives (moves_bytes_of which) arguments.now }
+{
+    moves_bytes(which) || (is_width(gives) && arguments.len() == 2)
+}
+
 // An instruction among so many values and blocks.
 fn is_form(values: u32, blocks: usize, gives: Ty, op: &Op) -> bool
     ensures { result ≡ is_form_at values blocks gives op.now }
@@ -140,8 +244,17 @@ fn is_form(values: u32, blocks: usize, gives: Ty, op: &Op) -> bool
                 && (*otherwise as usize) < blocks
                 && are_cases(blocks, cases.as_slice())
         }
-        Op::Unreachable => true,
-        _ => false,
+        Op::Gep(of, base, indices) => {
+            is_width(gives)
+                && is_operand(values, *base)
+                && are_indices(values, indices.as_slice())
+                && is_path(of, indices.as_slice(), values)
+        }
+        Op::BuiltIn(which, arguments) => {
+            is_built_in(gives, *which, arguments.as_slice())
+                && are_arguments(values, arguments.as_slice())
+        }
+        Op::Unreachable | Op::Alloca(_, _) => true,
     }
 }
 
@@ -168,77 +281,6 @@ fn are_blocks(values: u32, blocks: &[Block]) -> bool
     true
 }
 
-fn is_phi(op: &Op) -> bool
-    ensures { result ≡ is_phi_op op.now }
-{
-    match op {
-        Op::Phi(_) => true,
-        _ => false,
-    }
-}
-
-// Whether instructions begin with none that is a phi.
-fn is_headless(insts: &[Inst]) -> bool
-    ensures { result ≡ is_headless_at insts.now }
-{
-    match insts.get(0) {
-        Some(inst) => !is_phi(&inst.op),
-        None => true,
-    }
-}
-
-fn insts_of(function: &Function, block: u32) -> &[Inst]
-    ensures { result.now ≡ insts_at function.now block }
-{
-    match function.blocks.as_slice().get(block as usize) {
-        Some(block) => block.insts.as_slice(),
-        None => &[],
-    }
-}
-
-// No case leads to a block that begins with a phi.
-fn are_headless(function: &Function, cases: &[(u128, u32)]) -> bool
-    ensures { result ≡ are_headless_at function.now cases.now }
-{
-    for (_, to) in cases {
-        if !is_headless(insts_of(function, *to)) {
-            return false;
-        }
-    }
-    true
-}
-
-fn leads_on(function: &Function, op: &Op) -> bool
-    ensures { result ≡ leads_on_at function.now op.now }
-{
-    match op {
-        Op::Switch(_, _, _, cases) => are_headless(function, cases.as_slice()),
-        _ => true,
-    }
-}
-
-fn all_lead(function: &Function, insts: &[Inst]) -> bool
-    ensures { result ≡ all_lead_at function.now insts.now }
-{
-    for inst in insts {
-        if !leads_on(function, &inst.op) {
-            return false;
-        }
-    }
-    true
-}
-
-fn blocks_lead(function: &Function, blocks: &[Block]) -> bool
-    ensures { result ≡ blocks_lead_at function.now blocks.now }
-{
-    for block in blocks {
-        if !all_lead(function, block.insts.as_slice()) {
-            return false;
-        }
-    }
-    true
-}
-
 // Whether a function is taken.
 fn is_taken(function: &Function) -> bool
     requires { IsSmall function.now }
@@ -247,10 +289,9 @@ fn is_taken(function: &Function) -> bool
     let values = values_of(function);
     are_widths(function.params.as_slice())
         && function.params.len() <= 8
-        && values <= 59
+        && values <= 32764
         && function.blocks.len() <= 16384
         && are_blocks(values as u32, function.blocks.as_slice())
-        && blocks_lead(function, function.blocks.as_slice())
 }
 
 fn are_taken(functions: &[Function]) -> bool
@@ -265,8 +306,8 @@ fn are_taken(functions: &[Function]) -> bool
     true
 }
 
-/// Whether each function of a module is taken: at most eight parameters, 59 values and 16,384 blocks, instructions of the forms that the
-/// compiler knows, and no case that leads to a block with a phi.
+/// Whether each function of a module is taken: at most eight parameters, 32,764 values and 16,384 blocks, and instructions of the forms that
+/// the compiler knows.
 pub fn takes(module: &Checked) -> bool
     ensures { result ≡ are_taken_functions «module».now.module_.functions }
 {

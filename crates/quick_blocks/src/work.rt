@@ -59,9 +59,9 @@ pub fn put_cut(asm: &mut Asm, alloc: Global, width: u32, register: Reg) -> Resul
     )
 }
 
-// Extends a register's sign from a width.
+/// Extends a register's sign from a width.
 #[tactic(auto, using(crate::proofs::Put::code_none))]
-fn put_sign(asm: &mut Asm, alloc: Global, width: u32, register: Reg) -> Result<(), NoMemory>
+pub fn put_sign(asm: &mut Asm, alloc: Global, width: u32, register: Reg) -> Result<(), NoMemory>
     requires some { 1 ≤ width }
     requires most { width ≤ 64 }
     ensures { OnOk result (asm.new ≡ put_code asm.old (sign_extended width register)) }

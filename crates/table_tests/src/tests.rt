@@ -3,19 +3,19 @@
 ghost use Rattle.std.specs.Prelude.{◌≡◌, ◌<◌, ◌≤◌, ◌∷◌, [], IfOk, IfSome, length};
 ghost use Rattle.std.specs.Coded.{Coded-set};
 ghost use Rattle.ir_verify.specs.contracts.checked.Checked as checked;
-ghost use Rattle.ir_core.specs.Small.{IsSmallModule};
+ghost use Rattle.quick_blocks.specs.Taken.{IsTaken};
 ghost use Rattle.redirect_cells.specs.Kept.{IsBegun, word_in};
 ghost use Rattle.redirect_cells.specs.Opened.{AreQuick, AreNewSeats};
 ghost use Rattle.redirect_cells.specs.declared.view.Plan.{Plan};
 
 use code_epochs::OpenRefusal;
-use fast_isel::quick::quick;
 use ir_core::code::{BinOp, Block, Flags, Inst, Op, Operand};
 use ir_core::program::{Function, Module};
-use ir_core::small::is_small;
 use ir_core::types::Ty;
 use ir_verify::checked::Checked;
 use ir_verify::verdict::verify;
+use quick_blocks::compile::quick;
+use quick_blocks::taken::takes;
 use redirect_cells::{CodeTable, HartSeat, Keeper};
 use rj_num::NoMemory;
 use rv_play::version::Version;
@@ -147,7 +147,7 @@ struct Keeping<'a> {
     keeper: Keeper<'a>,
     all: &'a Checked,
     published: u32,
-    ghost small: { IsSmallModule all.now.module_ },
+    ghost taken: { IsTaken all.now.module_ },
     ghost one: { length all.now.module_.functions ≡ 1 },
     ghost plan: { keeper.desk.seat.table.now.table.shared.key.module.value ≡ all.now } by { Coded-set checked.the_row.coded _ _ },
     ghost functions: { 0 < keeper.desk.seat.table.now.functions },
@@ -155,7 +155,7 @@ struct Keeping<'a> {
 
 // Publishes a version of the symbol, and collects. 1 where it was published.
 fn renew(keeper: &mut Keeper, alloc: Global, all: &Checked) -> u32
-    requires small { IsSmallModule all.now.module_ }
+    requires taken { IsTaken all.now.module_ }
     requires one { length all.now.module_.functions ≡ 1 }
     requires plan { keeper.old.desk.seat.table.now.table.shared.key.module.value ≡ all.now }
     requires functions { 0 < keeper.old.desk.seat.table.now.functions }
@@ -201,7 +201,7 @@ fn one(alloc: Global, version: Version) -> Result<Vec<Version>, AllocError>
 }
 
 fn one_version(alloc: Global, all: &Checked) -> Result<Vec<Version>, NoMemory>
-    requires small { IsSmallModule all.now.module_ }
+    requires taken { IsTaken all.now.module_ }
     requires one { length all.now.module_.functions ≡ 1 }
     ensures { IfOk result (λ v. (plan : Plan) → plan.module.value ≡ all.now → AreQuick plan v.items) }
 {
@@ -255,7 +255,7 @@ fn one_word_is_missing(rt: HostRuntime) {
     let Ok(all) = verify(alloc, module, 4096) else {
         panic!(rt; "the module verifies");
     };
-    assert!(rt; is_small(all.module()) && all.module().functions.len() == 1);
+    assert!(rt; takes(&all) && all.module().functions.len() == 1);
     let Ok((table, opening)) = CodeTable::new(alloc, &all, 1, 19) else {
         panic!(rt; "there is memory");
     };
@@ -285,7 +285,7 @@ fn versions_change_under_a_hart(rt: HostRuntime) {
     let Ok(all) = verify(alloc, module, 4096) else {
         panic!(rt; "the module verifies");
     };
-    assert!(rt; is_small(all.module()) && all.module().functions.len() == 1);
+    assert!(rt; takes(&all) && all.module().functions.len() == 1);
     let Ok((table, opening)) = CodeTable::new(alloc, &all, 1, CODE_WORDS) else {
         panic!(rt; "there is memory");
     };

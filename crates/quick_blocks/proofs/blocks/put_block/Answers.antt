@@ -1,21 +1,23 @@
-use Rattle.std.proofs.Common.{◌-◌, ◌*◌, ap, ◌∙◌, arith, length}
-use Rattle.std.specs.Prelude.{take, drop}
+use Rattle.std.proofs.Common.{◌-◌, ap, ◌∙◌, arith, length, ◌∷◌, []}
+use Rattle.std.specs.Prelude.{take, drop, slice_get}
 use Rattle.ir_core.specs.Units.{frame, values}
 use Rattle.fast_isel.specs.Assembly.{put}
-use Rattle.fast_isel.specs.Blocks.{insts_items}
+use Rattle.fast_isel.specs.Blocks.{Bind, block_label, insts_items}
 use Rattle.quick_blocks.specs.Taken.{are_forms}
 use Rattle.ir_meaning.specs.Step.{insts_at}
-use Rattle.quick_blocks.proofs.Counts.{number-most}
+use Rattle.quick_blocks.proofs.Counts.{number-most, label_below}
 use Rattle.quick_blocks.proofs.Forms.{few_values, block_forms}
 use Rattle.quick_blocks.proofs.Joins.{all_behind, block_put, block_free}
 use Rattle.quick_blocks.proofs.blocks.put_block.Goals as goal
 
 pub put_label-requires : goal.put_label-requires
-put_label-requires c = c.requires.free (2 * c.args.block) (omega arith) (let lt = c.requires.block in omega (arith, lt))
+put_label-requires c =
+    let below = label_below c.args.function.now c.args.block c.requires.block in
+    ap (slice_get c.args.asm.now.bound) c.label_in.ensures.value ∙ c.requires.free (block_label c.args.function.now c.args.block) (omega arith) (omega (arith, below))
 
 pub put_insts-requires-clause-free : goal.put_insts-requires-clause-free
 put_insts-requires-clause-free c =
-    block_free c.args.function.now c.args.asm.now c.put_label.new.asm c.put_phis.new.asm c.args.block c.put_label.ensures c.in_ok-heads.ensures.code c.requires.free
+    block_free c.args.function.now c.args.asm.now c.put_label.new.asm c.put_phis.new.asm c.args.block (c.put_label.ensures ∙ ap (λ l. put c.args.asm.now (Bind l ∷ [])) c.label_in.ensures.value) c.in_ok-heads.ensures.code c.requires.free
 
 pub put_phis-requires-clause-forms : goal.put_phis-requires-clause-forms
 put_phis-requires-clause-forms c =
@@ -36,6 +38,6 @@ returns c =
     let insts = c.insts_in-insts.result.now in
     let rest = take (length insts - heads) (drop heads insts) in
     let many = c.in_ok-heads.ensures.heads in
-    block_put c.args.globals.now f c.args.asm.now c.put_label.new.asm c.put_phis.new.asm c.put_insts.new.asm (frame f) c.args.block rest c.put_label.ensures c.in_ok-heads.ensures.code
+    block_put c.args.globals.now f c.args.room c.args.asm.now c.put_label.new.asm c.put_phis.new.asm c.put_insts.new.asm (frame f) c.args.block rest (c.put_label.ensures ∙ ap (λ l. put c.args.asm.now (Bind l ∷ [])) c.label_in.ensures.value) c.in_ok-heads.ensures.code
     (all_behind insts heads ∙ ap (drop heads) c.insts_in-insts.ensures ∙ ap (λ k. drop k (insts_at f c.args.block)) many)
-    (c.in_ok-put_insts.ensures ∙ ap (λ k. put c.put_phis.new.asm (insts_items c.args.globals.now f (frame f) c.args.block k rest)) many)
+    (c.in_ok-put_insts.ensures ∙ ap (λ k. put c.put_phis.new.asm (insts_items c.args.globals.now f c.args.room (frame f) c.args.block k rest)) many)

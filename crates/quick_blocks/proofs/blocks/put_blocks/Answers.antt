@@ -7,9 +7,9 @@ pub loop-block-preserved : goal.loop-block-preserved
 loop-block-preserved c =
     let f = c.args.function.now in
     record {
-      free = blocks_free c.args.globals.now f c.requires.flow c.loop-block.asm c.put_block.new.asm (frame f) c.loop-block.block c.in_ok-put_block.ensures c.loop-block.invariant.free;
-      code = blocks_more c.args.globals.now f c.loop-block.asm c.put_block.new.asm _ (frame f) c.loop-block.block (length f.blocks) (omega arith) c.loop-block.invariant.code c.in_ok-put_block.ensures;
+      free = blocks_free c.args.globals.now f c.args.room c.requires.flow c.loop-block.asm c.put_block.new.asm (frame f) c.loop-block.block c.in_ok-put_block.ensures c.loop-block.invariant.free;
+      code = blocks_more c.args.globals.now f c.args.room c.loop-block.asm c.put_block.new.asm _ (frame f) c.loop-block.block (length f.blocks) (omega arith) c.loop-block.invariant.code c.in_ok-put_block.ensures;
     }
 
 pub returns : goal.returns
-returns c = blocks_done c.args.globals.now c.args.function.now c.loop-block.asm _ (frame c.args.function.now) c.loop-block.block (length c.args.function.now.blocks) (let end = c.len-block-end.ensures in omega (arith, end, c.loop-block-test.false)) c.loop-block.invariant.code
+returns c = blocks_done c.args.globals.now c.args.function.now c.args.room c.loop-block.asm _ (frame c.args.function.now) c.loop-block.block (length c.args.function.now.blocks) (let end = c.len-block-end.ensures in omega (arith, end, c.loop-block-test.false)) c.loop-block.invariant.code

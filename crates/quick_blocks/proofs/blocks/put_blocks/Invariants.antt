@@ -7,6 +7,6 @@ use Rattle.quick_blocks.proofs.blocks.put_blocks.Given as goal
 
 abbrev pub invariant-loop-block : goal.invariant-loop-block
 invariant-loop-block l = record {
-  free : AreFree l.fn.function (block_label l.block) l.asm;
-  code : put l.asm (blocks_items l.fn.globals l.fn.function (frame l.fn.function) l.block (length l.fn.function.blocks - l.block)) ≡ put l.fn.asm (blocks_items l.fn.globals l.fn.function (frame l.fn.function) 0 (length l.fn.function.blocks));
+  free : AreFree l.fn.function (block_label l.fn.function l.block) l.asm;
+  code : put l.asm (blocks_items l.fn.globals l.fn.function l.fn.room (frame l.fn.function) l.block (length l.fn.function.blocks - l.block)) ≡ put l.fn.asm (blocks_items l.fn.globals l.fn.function l.fn.room (frame l.fn.function) 0 (length l.fn.function.blocks));
 }

@@ -1,4 +1,4 @@
-use Rattle.std.proofs.Common.{ap, sym, ◌∙◌, arith, length, [], ◌∷◌}
+use Rattle.std.proofs.Common.{ap, sym, ◌∙◌, arith, length, ◌++◌}
 use Rattle.rv_core.specs.declared.reg.Reg.TheVariants.{T0}
 use Rattle.ir_meaning.specs.Step.{number_at}
 use Rattle.fast_isel.specs.Code.{store_value}
@@ -34,7 +34,7 @@ loop-inst-preserved c =
       forms = form.rest;
       many = omega (arith, many, first);
       code = phis_more f c.loop-inst.asm c.put_phi.new.asm _ c.args.block insts i inst c.in-Phi.field-0 c.loop-inst-test.true c.inst-item.is c.in-Phi.is c.loop-inst.invariant.code
-          (c.in_ok-put_phi-in-Phi.ensures ∙ ap (λ d. put_code c.loop-inst.asm (load_next T0 d ∷ store_value T0 d ∷ [])) value);
+          (c.in_ok-put_phi-in-Phi.ensures ∙ ap (λ d. put_code c.loop-inst.asm (load_next T0 d ++ store_value T0 d)) value);
     }
 
 pub overflow_add-first : goal.overflow_add-first

@@ -1,5 +1,4 @@
-use Rattle.fast_isel.proofs.Loops.{valid-at}
-use Rattle.quick_blocks.proofs.Put.{instr_more, instrs_done}
+use Rattle.quick_blocks.proofs.Put.{instr_more, instrs_done, valid-at}
 use Rattle.quick_blocks.proofs.pieces.put_all.Goals as goal
 
 pub put_instr-requires : goal.put_instr-requires
