@@ -46,6 +46,7 @@ impl Hart {
         ensures control { self.new.control ≡ self.old.control }
         ensures known { (self.new.functions ≡ self.old.functions) × (self.new.widths ≡ self.old.widths) }
         ensures code { self.new.code_words ≡ code_words }
+        ensures left { self.new.left ≡ 256 * call.now.turns }
         ensures in_range { ((i : ℕ) → slice_index self.new.bytes.items i < 256) × ((i : ℕ) → slice_index self.new.control.items i < 256) }
     {
         write_image(

@@ -1,5 +1,5 @@
 -- A core's harts before their first call.
-use Rattle.std.proofs.Common.{◌≡◌, ℕ, zero, suc, ◌+◌, ◌<◌, ◌≤◌, List, [], ◌∷◌, ◌++◌, length, length-append, None, Option, refl, sym, ap, subst, ◌∙◌, ⊎_elim, arith}
+use Rattle.std.proofs.Common.{◌≡◌, ℕ, zero, suc, ◌+◌, ◌<◌, ◌≤◌, List, [], ◌∷◌, ◌++◌, length, length-append, None, Some, Option, refl, sym, ap, subst, ◌∙◌, ⊎_elim, arith}
 use mathlib.Core.Option.{some-ne-none}
 use Rattle.ir_meaning.specs.Plays.{Meaning}
 use Rattle.ir_meaning.specs.declared.calls.Ended.{Ended}
@@ -15,7 +15,11 @@ use Rattle.code_epochs.specs.Sound.{At, Whole, Sound}
 use Rattle.code_epochs.specs.Steps.{AllLinked, hart_split, new_part}
 use Rattle.code_epochs.proofs.Lists.{at_snoc, at_some, at_below}
 use Rattle.code_epochs.proofs.Seats.{split_sound}
-use Rattle.jit_core.specs.declared.laying.Laying.{Laying}
+use Rattle.code_epochs.specs.declared.state.Status.TheVariants.{Linked, Unlinked}
+use Rattle.version_shelf.specs.Shelf.{count_staying}
+use Rattle.jit_core.specs.declared.publishing.Publishing.{Publishing}
+use Rattle.jit_core.specs.declared.publishing.Publishing.TheVariants.{Raising}
+use Rattle.jit_core.specs.declared.publishing.Pair.{Pair}
 use Rattle.jit_core.specs.declared.seat.Seat.{Seat}
 use Rattle.jit_core.specs.declared.seat.Stage.{Stage}
 use Rattle.jit_core.specs.declared.seat.Stage.TheVariants as stage
@@ -24,9 +28,11 @@ use Rattle.jit_core.specs.declared.state_machine.Core.{Core}
 use Rattle.jit_core.specs.Seats.{SeatStands, StandsAt, AreCalls, place_of}
 use Rattle.jit_core.specs.Seated.{CanStep}
 use Rattle.jit_core.specs.Harts.{AreReady, AllStand}
-use Rattle.jit_core.specs.Cores.{AllBelow, LaysIn, CanLayIn, Stands, IsKept, meaning_of}
-use Rattle.jit_core.specs.First.{words_of, AreQuick, laid, IsNewSeat, AreNewSeats, IsOpened}
-use Rattle.jit_core.proofs.Opening.{laid_linked, laid_below}
+use Rattle.jit_core.specs.Cores.{PublishesAs, CanPublish, IsLastLook, Stands, IsKept, meaning_of}
+use Rattle.jit_core.specs.Spaces.{SpaceIs, count_held}
+use Rattle.jit_core.specs.First.{words_of, AreQuick, laid, IsNewSeat, AreNewSeats, IsOpened, IsBehind}
+use Rattle.jit_core.proofs.Opening.{laid_linked, laid_all_linked, laid_count}
+use Rattle.jit_core.proofs.Spaces.{space_first}
 
 pub seats_more : (m : Meaning) (harts calls : ℕ) (old new : List Seat) (s : Seat) → AreNewSeats m harts calls old → IsNewSeat m harts calls s → new ≡ old ++ s ∷ [] → AreNewSeats m harts calls new
 seats_more m harts calls old new s all one is = λ h u at. ⊎_elim
@@ -40,6 +46,7 @@ pub record Split (x y : Whole) (n : ℕ) : Type 0 where
   pub versions : y.book.versions ≡ x.book.versions
   pub draft : y.book.draft ≡ x.book.draft
   pub gone : y.book.gone ≡ x.book.gone
+  pub looks : y.book.looks ≡ x.book.looks
   pub count : length y.harts ≡ length x.harts + n
   pub parts : ((h : ℕ) (p : HartPart) → At x.harts h p → p ≡ new_part) → (h : ℕ) (p : HartPart) → At y.harts h p → p ≡ new_part
 
@@ -47,7 +54,7 @@ linked-same : (functions : ℕ) (old new : Book) → new.versions ≡ old.versio
 linked-same functions old new same all = λ k low. let v = all k low in (v.0, v.1, subst (λ (l : List VersionState). At l v.0 v.1) (sym same) v.2, v.3, v.4)
 
 pub split_all : (m : Meaning) (x : Whole) (n : ℕ) → Sound m x → length x.harts + n ≤ length x.announced → AllLinked m.functions x.book → (y : Whole) × Sound m y × Split x y n
-split_all m x zero s room all = (x, s, record { stored = (refl, refl, refl, refl); versions = refl; draft = refl; gone = refl; count = (let e : length x.harts ≡ length x.harts + 0 = omega arith in e); parts = λ new. new })
+split_all m x zero s room all = (x, s, record { stored = (refl, refl, refl, refl); versions = refl; draft = refl; gone = refl; looks = refl; count = (let e : length x.harts ≡ length x.harts + 0 = omega arith in e); parts = λ new. new })
 split_all m x (suc n) s room all =
     let t = split_all m x n s (omega arith) all in
     let y = t.0 in
@@ -63,6 +70,7 @@ split_all m x (suc n) s room all =
         versions = f.versions;
         draft = f.draft;
         gone = f.gone;
+        looks = f.looks;
         count = (let more = length-append y.harts (new_part ∷ []) in omega arith);
         parts = λ new h p at. ⊎_elim (λ (z : At y.harts h p). f.parts new h p z) (λ (z : (h ≡ length y.harts) × (new_part ≡ p)). sym z.1) (at_snoc y.harts new_part p h at);
       },
@@ -126,11 +134,15 @@ all_ready m work seats state new room functions low code calls few harts = λ h 
       enough = λ k more. n.enough k (omega arith);
     }
 
+-- an unlinked version isn't linked
+linked-only : (l : List VersionState) (p : Option Publishing) → ((i : ℕ) (v : VersionState) → At l i v → v.status ≡ Linked) → (i : ℕ) (v : VersionState) → At l i v → v.status ≡ Unlinked → p ≡ Some (Raising i)
+linked-only l p all i v at is = absurd (let e : Linked ≡ Unlinked = sym (all i v at) ∙ is in cc)
+
 -- the core stands for no event
 pub new_stands : (c : Core) (harts code_words : ℕ) (versions : List Version) → IsOpened (meaning_of c) harts code_words versions c.state → AreQuick (meaning_of c) versions
-    → c.laying ≡ None → c.next ≡ words_of versions → c.work.harts ≡ harts → length c.seats.items ≡ harts → HasRoomFor (meaning_of c).room c.work.image.now
+    → c.publishing ≡ None → c.looked ≡ None → IsBehind code_words (words_of versions) (length versions) c.space → c.work.harts ≡ harts → length c.seats.items ≡ harts → HasRoomFor (meaning_of c).room c.work.image.now
     → AreNewSeats (meaning_of c) harts (length c.work.calls.now) c.seats.items → Stands c []
-new_stands c harts code_words versions o quick laying next count seats room new =
+new_stands c harts code_words versions o quick publishing looked space count seats room new =
     let m = meaning_of c in
     let x = o.whole in
     let none = ap length o.harts in
@@ -141,6 +153,8 @@ new_stands c harts code_words versions o quick laying next count seats room new 
     let number = f.count in
     let announced = ap length f.stored.2 in
     let nothing : y.book.draft ≡ None = f.draft ∙ o.draft in
+    let laid_are : y.book.versions ≡ laid versions 0 0 = f.versions ∙ o.versions in
+    let code : length y.code ≡ code_words = ap length f.stored.3 ∙ o.code in
     let fresh : (h : ℕ) (p : HartPart) → At x.harts h p → p ≡ new_part = λ h p at. absurd (none-at h p (subst (λ (l : List HartPart). At l h p) o.harts at)) in record {
       first = y;
       whole = y;
@@ -151,28 +165,31 @@ new_stands c harts code_words versions o quick laying next count seats room new 
       gone = f.gone ∙ o.gone;
       seats = all-stand m c.work (length c.work.calls.now) y c.seats.items (subst (λ (k : ℕ). AreNewSeats m k (length c.work.calls.now) c.seats.items) (sym count) new) room (omega arith) (omega arith)
           (f.parts fresh) (λ h w at. o.words.1 h w (subst (λ (l : List ℕ). At l h w) f.stored.2 at));
-      laying = subst (λ (d : Option Laying). LaysIn m y c.next d) (sym laying) nothing;
-      below = subst (λ (l : List VersionState). AllBelow l c.next) (sym (f.versions ∙ o.versions)) (subst (λ (k : ℕ). AllBelow (laid versions 0 0) k) (sym next) (laid_below versions));
+      publishing = subst (λ (p : Option Publishing). PublishesAs m y p) (sym publishing) nothing;
+      unlinked = linked-only y.book.versions c.publishing (λ i v at. laid_all_linked versions 0 0 i v (subst (λ (l : List VersionState). At l i v) laid_are at));
+      space = subst (λ (l : List VersionState). SpaceIs l (length y.code) c.publishing c.space) (sym laid_are) (subst (λ (p : Option Publishing). SpaceIs (laid versions 0 0) (length y.code) p c.space) (sym publishing)
+          (subst (λ (k : ℕ). SpaceIs (laid versions 0 0) k None c.space) (sym code) (space_first versions code_words (length versions) c.space space)));
+      looked = subst (λ (p : Option Pair). IsLastLook y.book.looks p) (sym looked) (f.looks ∙ o.looks);
     }
 
 -- the core has what it needs for its steps
-pub new_kept : (c : Core) (harts code_words : ℕ) (versions : List Version) → IsOpened (meaning_of c) harts code_words versions c.state → words_of versions ≤ code_words
-    → c.laying ≡ None → c.next ≡ words_of versions → c.work.harts ≡ harts → length c.seats.items ≡ harts → HasRoomFor (meaning_of c).room c.work.image.now
+pub new_kept : (c : Core) (harts code_words : ℕ) (versions : List Version) → IsOpened (meaning_of c) harts code_words versions c.state → Stands c []
+    → c.publishing ≡ None → IsBehind code_words (words_of versions) (length versions) c.space → c.work.harts ≡ harts → length c.seats.items ≡ harts → HasRoomFor (meaning_of c).room c.work.image.now
     → (1 ≤ harts) × (harts ≤ 16) → code_words ≤ 4194304 → AreCalls (meaning_of c).functions c.work.calls.now × (length c.work.calls.now ≤ 65536)
     → AreNewSeats (meaning_of c) harts (length c.work.calls.now) c.seats.items → IsKept c
-new_kept c harts code_words versions o fits laying next count seats room some small calls new =
+new_kept c harts code_words versions o stands publishing space count seats room some small calls new =
     let m = meaning_of c in
     let x = o.whole in
     let cells = ap length o.state.0 ∙ o.sound.book.functions in
     let words = ap length o.state.2 ∙ o.words.0 in
     let code = ap length o.state.3 ∙ o.code in
-    let many = ap length o.state.4 in
-    let most = o.sound.book.count in record {
+    let held : count_staying c.state.versions.items ≤ c.space.spare = subst (λ (l : List VersionState). count_staying l ≤ c.space.spare) (sym (o.state.4 ∙ o.versions)) (subst (λ (k : ℕ). k ≤ c.space.spare) (sym (laid_count versions 0 0)) space.spare) in record {
       ready = all_ready m c.work c.seats.items c.state (subst (λ (k : ℕ). AreNewSeats m k (length c.work.calls.now) c.seats.items) (sym count) new) room cells (omega arith) (omega arith) calls.0 calls.1
           (subst (λ (k : ℕ). (1 ≤ k) × (k ≤ 16)) (sym count) some);
-      laid = subst (λ (d : Option Laying). CanLayIn c.state d) (sym laying) tt;
-      next = omega arith;
+      can = subst (λ (p : Option Publishing). CanPublish c.state p) (sym publishing) tt;
       code = omega arith;
       functions = cells;
-      versions = omega arith;
+      harts = ((let least = some.0 in omega arith), count ∙ sym seats);
+      room = subst (λ (p : Option Publishing). count_held c.state.versions.items p ≤ c.space.spare) (sym publishing) held;
+      stands = ([], stands);
     }

@@ -1,5 +1,5 @@
 -- Every list of events keeps the code state sound, and passes that ended stay backed.
-use Rattle.std.proofs.Common.{◌≡◌, ℕ, List, [], ◌∷◌, length, sym, subst}
+use Rattle.std.proofs.Common.{◌≡◌, ℕ, List, [], ◌∷◌, ◌<◌, length, sym, subst, arith}
 use Rattle.ir_core.specs.Program.{Program}
 use Rattle.ir_meaning.specs.declared.calls.Ended.{Ended}
 use Rattle.ir_meaning.specs.declared.calls.ListedCall.{ListedCall}
@@ -16,6 +16,10 @@ use Rattle.code_epochs.proofs.Harts.{load_cell_sound, load_word_sound}
 use Rattle.code_epochs.proofs.Idle.{load_epoch_sound, announce_sound, go_idle_sound}
 use Rattle.code_epochs.proofs.Keeper.{store_header_sound, store_next_sound}
 use Rattle.code_epochs.proofs.Swap.{swap_cell_sound}
+use Rattle.code_epochs.proofs.Epochs.{raise_epoch_sound, look_sound, clear_header_sound}
+use Rattle.code_epochs.proofs.Marked.{marks_are}
+use Rattle.code_epochs.proofs.Lists.{at_below}
+use Rattle.code_epochs.specs.Steps.{marked_by}
 use Rattle.code_epochs.proofs.Good.{good_backed}
 use Rattle.hart.specs.declared.hart.Hart as hart
 use Rattle.hart.specs.declared.hart.Image.{Image}
@@ -27,7 +31,7 @@ use Rattle.jit_core.specs.declared.event.Event.{Event}
 use Rattle.jit_core.specs.declared.event.Event.TheVariants.{Hart, Keeper, Order}
 use Rattle.jit_core.specs.declared.event.Stepped.{Stepped}
 use Rattle.jit_core.specs.declared.event.Stepped.TheVariants.{Moved, Taken, Nothing, Busy, Refused}
-use Rattle.jit_core.specs.Events.{HartStep, loads_epoch, announces, loads_cell, loads_word, goes_idle, KeeperStep, stores_header, stores_next, swaps_cell, Leads, Told, Runs}
+use Rattle.jit_core.specs.Events.{HartStep, loads_epoch, announces, loads_cell, loads_word, goes_idle, KeeperStep, stores_header, stores_next, swaps_cell, raises_epoch, looks_at, clears_header, Task, Leads, Told, Runs}
 
 hart-sound : (m : Meaning) (x : Whole) (h : ℕ) (y : Whole) → Sound m x → HartStep x h y → Sound m y
 hart-sound m x h _ s (loads_epoch p idle here) = load_epoch_sound m x h p s idle here
@@ -36,10 +40,16 @@ hart-sound m x h _ s (loads_cell p word symbol base active at) = load_cell_sound
 hart-sound m x h _ s (loads_word p word place found active at) = load_word_sound m x h p word place found s active at
 hart-sound m x h _ s (goes_idle p word active) = go_idle_sound m x h p word s active
 
-keeper-sound : (m : Meaning) (x y : Whole) → Sound m x → KeeperStep m x y → Sound m y
-keeper-sound m x _ s (stores_header v base begins) = store_header_sound m x v.symbol v.level base v.words s begins
-keeper-sound m x _ s (stores_next d word next) = store_next_sound m x d word s next
-keeper-sound m x _ s (swaps_cell d complete) = swap_cell_sound m x d s complete
+keeper-sound : (m : Meaning) (x : Whole) (task : Task) (y : Whole) → Sound m x → KeeperStep m x task y → Sound m y
+keeper-sound m x _ _ s (stores_header v base begins) = store_header_sound m x v.symbol v.level base v.words s begins
+keeper-sound m x _ _ s (stores_next d word next) = store_next_sound m x d word s next
+keeper-sound m x _ _ s (swaps_cell d complete) = swap_cell_sound m x d s complete
+keeper-sound m x _ _ s (raises_epoch i v is) = raise_epoch_sound m x i v s is
+keeper-sound m x _ _ s (looks_at i v tag passed h found is at) =
+    let here = at_below x.announced h found at in
+    let few = s.places.1 in
+    let small : h < 32 = omega arith in look_sound m x i v tag passed (marked_by tag passed h found) h found s is at (marks_are tag passed h found small)
+keeper-sound m x _ _ s (clears_header i v tag passed is all) = clear_header_sound m x i v tag passed s is all
 
 same-sound : (m : Meaning) (x y : Whole) → Sound m x → y ≡ x → Sound m y
 same-sound m x y s e = subst (λ (z : Whole). Sound m z) (sym e) s
@@ -50,7 +60,7 @@ event_sound m x y (Hart h) Taken s l = absurd l
 event_sound m x y (Hart h) Nothing s l = same-sound m x y s l
 event_sound m x y (Hart h) (Busy v) s l = absurd l
 event_sound m x y (Hart h) (Refused v cause) s l = absurd l
-event_sound m x y Keeper Moved s l = keeper-sound m x y s l
+event_sound m x y Keeper Moved s l = keeper-sound m x l.0 y s l.1
 event_sound m x y Keeper Taken s l = absurd l
 event_sound m x y Keeper Nothing s l = same-sound m x y s l
 event_sound m x y Keeper (Busy v) s l = absurd l

@@ -8,7 +8,7 @@ use Rattle.code_epochs.specs.Sound.{At, Whole, Sound, IsStateOf, DraftFits, star
 use Rattle.code_epochs.specs.Steps.{CanBegin, StoresHeader, StoresNext, SwapsCell, IsComplete, draft_begun, word_stored, cell_swapped}
 use Rattle.code_epochs.proofs.Lists.{at_get}
 use Rattle.jit_core.specs.declared.laying.Laying.{Laying}
-use Rattle.jit_core.specs.Events.{KeeperStep, stores_header, stores_next, swaps_cell}
+use Rattle.jit_core.specs.Events.{KeeperStep, lay_draft, stores_header, stores_next, swaps_cell}
 use Rattle.jit_core.specs.Laying.{LaysAs, Links, IsFrame, CanLay, draft_from}
 
 -- one more word is stored of it
@@ -17,7 +17,7 @@ one_further d = record { version = d.version; base = d.base; stored = d.stored +
 
 pub header_stores : (old new : CodeState) (d : Laying) → d.stored ≡ 0 → StoresHeader old new d.version d.base
     → (m : Meaning) (x : Whole) → Sound m x → IsStateOf old x → CanBegin m x d.version.symbol d.base d.version.words
-    → (y : Whole) × KeeperStep m x y × Sound m y × IsStateOf new y × LaysAs m y (one_further d)
+    → (y : Whole) × KeeperStep m x lay_draft y × Sound m y × IsStateOf new y × LaysAs m y (one_further d)
     × IsFrame x y × (y.book.versions ≡ x.book.versions)
 header_stores old new d none stores m x sound state begins =
     let both = stores m x state sound begins in
@@ -28,14 +28,14 @@ header_stores old new d none stores m x sound state begins =
       both.0,
       both.1,
       subst (λ (n : ℕ). LaysAs m y (record { version = d.version; base = d.base; stored = n })) one (inr (omega arith, refl)),
-      record { harts = refl; announced = refl; code = length-set x.code (start_of d.base) (length x.book.versions + 1); gone = refl },
+      record { harts = refl; announced = refl; code = length-set x.code (start_of d.base) (length x.book.versions + 1); gone = refl; looks = refl },
       refl,
     )
 
 pub word_stores : (old new : CodeState) (d : Laying) (index word : ℕ) → 0 < d.stored → d.stored ≤ length d.version.words → index ≡ start_of d.base + d.stored
     → word ≡ get_or d.version.words (index - start_of d.base - 1) 0 → StoresNext old new d.version d.base index word
     → (m : Meaning) (x : Whole) → Sound m x → IsStateOf old x → x.book.draft ≡ Some (draft_from d)
-    → (y : Whole) × KeeperStep m x y × Sound m y × IsStateOf new y × LaysAs m y (one_further d)
+    → (y : Whole) × KeeperStep m x lay_draft y × Sound m y × IsStateOf new y × LaysAs m y (one_further d)
     × IsFrame x y × (y.book.versions ≡ x.book.versions)
 word_stores old new d index word begun more at is stores m x sound state draft =
     let e = draft_from d in
@@ -49,7 +49,7 @@ word_stores old new d index word begun more at is stores m x sound state draft =
       both.0,
       both.1,
       inr (omega arith, refl),
-      record { harts = refl; announced = refl; code = length-set x.code (start_of d.base + d.stored) word; gone = refl },
+      record { harts = refl; announced = refl; code = length-set x.code (start_of d.base + d.stored) word; gone = refl; looks = refl },
       refl,
     )
 
@@ -66,7 +66,7 @@ links old new d complete swaps m x sound state lays =
     let most = stored-most m x e sound t.1 in
     let whole : IsComplete x e = (t.1, (let same : d.stored ≡ length d.version.words + 1 = omega arith in same)) in
     let both = swaps m x e state sound whole (refl, refl, refl, refl) in
-    (cell_swapped x e, swaps_cell e whole, both.0, both.1, refl, record { harts = refl; announced = refl; code = refl; gone = refl }, refl))
+    (cell_swapped x e, swaps_cell e whole, both.0, both.1, refl, record { harts = refl; announced = refl; code = refl; gone = refl; looks = refl }, refl))
     lays
 
 -- a word that is stored leaves the code words as many

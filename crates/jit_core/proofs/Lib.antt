@@ -7,5 +7,17 @@ pub mod Readying
 pub mod Seating
 pub mod Laid
 pub mod Standing
+pub mod Beginning
+pub mod Spaces
+pub mod Linking
+pub mod Storing
+pub mod Reclaiming
+pub mod Searching
+pub mod Simulating
+pub mod Falling
+pub mod Keeping
+pub mod HartSteps
+pub mod Ordering
+pub mod Finishing
 pub mod Opening
 pub mod Founding

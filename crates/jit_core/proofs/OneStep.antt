@@ -4,13 +4,13 @@ use Rattle.ir_meaning.specs.Plays.{Meaning}
 use Rattle.code_epochs.specs.declared.parts.HartPart.{HartPart}
 use Rattle.code_epochs.specs.declared.parts.Item.TheVariants.{Held, Saw}
 use Rattle.code_epochs.specs.Sound.{At, Whole, start_of}
-use Rattle.code_epochs.specs.Steps.{address_of, with_item, loaded_part, ended_part, epoch_announced, gone_idle, draft_begun, word_stored, cell_swapped}
+use Rattle.code_epochs.specs.Steps.{address_of, with_item, loaded_part, ended_part, epoch_announced, gone_idle, draft_begun, word_stored, cell_swapped, header_cleared}
 use Rattle.code_epochs.proofs.Lists.{set_else}
 use Rattle.jit_core.specs.declared.event.Event.{Event}
 use Rattle.jit_core.specs.declared.event.Event.TheVariants.{Hart, Keeper, Order}
 use Rattle.jit_core.specs.declared.event.Stepped.{Stepped}
 use Rattle.jit_core.specs.declared.event.Stepped.TheVariants.{Moved, Taken, Nothing, Busy, Refused}
-use Rattle.jit_core.specs.Events.{HartStep, loads_epoch, announces, loads_cell, loads_word, goes_idle, KeeperStep, stores_header, stores_next, swaps_cell, Leads, OneChanged, OneWord, IsOwn, shared_words}
+use Rattle.jit_core.specs.Events.{HartStep, loads_epoch, announces, loads_cell, loads_word, goes_idle, KeeperStep, stores_header, stores_next, swaps_cell, raises_epoch, looks_at, clears_header, Task, Leads, OneChanged, OneWord, IsOwn, shared_words}
 
 one-set : (l : List ℕ) (i n : ℕ) → OneChanged l (set l i n)
 one-set l i n = inr (i, n, refl)
@@ -46,10 +46,13 @@ hart-word x h _ (loads_cell p word symbol base active at) = inl refl
 hart-word x h _ (loads_word p word place found active at) = inl refl
 hart-word x h _ (goes_idle p word active) = one-hart x (gone_idle x h p) h 0 refl refl refl refl
 
-keeper-word : (m : Meaning) (x y : Whole) → KeeperStep m x y → OneWord x y
-keeper-word m x _ (stores_header v base begins) = one-code x (draft_begun x v.symbol v.level base v.words) (start_of base) (length x.book.versions + 1) refl refl refl refl
-keeper-word m x _ (stores_next d word next) = one-code x (word_stored x d word) (start_of d.base + d.stored) word refl refl refl refl
-keeper-word m x _ (swaps_cell d complete) = one-cell x (cell_swapped x d) d.symbol d.base refl refl refl refl
+keeper-word : (m : Meaning) (x : Whole) (task : Task) (y : Whole) → KeeperStep m x task y → OneWord x y
+keeper-word m x _ _ (stores_header v base begins) = one-code x (draft_begun x v.symbol v.level base v.words) (start_of base) (length x.book.versions + 1) refl refl refl refl
+keeper-word m x _ _ (stores_next d word next) = one-code x (word_stored x d word) (start_of d.base + d.stored) word refl refl refl refl
+keeper-word m x _ _ (swaps_cell d complete) = one-cell x (cell_swapped x d) d.symbol d.base refl refl refl refl
+keeper-word m x _ _ (raises_epoch i v is) = inr (0, x.epoch + 1, refl)
+keeper-word m x _ _ (looks_at i v tag passed h found is at) = inl refl
+keeper-word m x _ _ (clears_header i v tag passed is all) = one-code x (header_cleared x i v) (start_of v.base) 0 refl refl refl refl
 
 same-word : (x y : Whole) → y ≡ x → OneWord x y
 same-word x y e = inl (ap shared_words e)
@@ -60,7 +63,7 @@ one_word m x y (Hart h) Taken l = absurd l
 one_word m x y (Hart h) Nothing l = same-word x y l
 one_word m x y (Hart h) (Busy v) l = absurd l
 one_word m x y (Hart h) (Refused v cause) l = absurd l
-one_word m x y Keeper Moved l = keeper-word m x y l
+one_word m x y Keeper Moved l = keeper-word m x l.0 y l.1
 one_word m x y Keeper Taken l = absurd l
 one_word m x y Keeper Nothing l = same-word x y l
 one_word m x y Keeper (Busy v) l = absurd l

@@ -12,12 +12,12 @@ use Rattle.code_epochs.specs.declared.state.Status.TheVariants.{Linked}
 use Rattle.code_epochs.specs.Sound.{At, Whole, Sound, IsStateOf, start_of}
 use Rattle.code_epochs.specs.Steps.{unlink, unlinked, with_status, linked_of}
 use Rattle.code_epochs.proofs.Lists.{at_below, at_longer}
+use Rattle.version_shelf.specs.Shelf.{count_staying}
 use Rattle.jit_core.specs.declared.laying.Laying.{Laying}
 use Rattle.jit_core.specs.Laying.{LaysAs, IsFrame}
 use Rattle.jit_core.specs.Seated.{IsSameSize}
-use Rattle.jit_core.specs.Cores.{AllBelow}
-use Rattle.jit_core.specs.First.{words_of, AreQuick, draft_at, laid, Publishes, Opens}
-use Rattle.jit_core.proofs.Standing.{may_begin}
+use Rattle.jit_core.specs.First.{AllBelow, words_of, AreQuick, draft_at, laid, Publishes, Opens}
+use Rattle.jit_core.proofs.Beginning.{may_begin}
 
 -- more of the version is stored, whatever is known beside the state
 abbrev pub Lays : CodeState → CodeState → Laying → Laying → Type 0
@@ -26,10 +26,10 @@ Lays old new before after =
     → (y : Whole) × Sound m y × IsStateOf new y × LaysAs m y after × IsFrame x y × (y.book.versions ≡ x.book.versions)
 
 abbrev pub same_frame : (x : Whole) → IsFrame x x
-same_frame x = record { harts = refl; announced = refl; code = refl; gone = refl }
+same_frame x = record { harts = refl; announced = refl; code = refl; gone = refl; looks = refl }
 
 pub frame_more : (x y z : Whole) → IsFrame x y → IsFrame y z → IsFrame x z
-frame_more x y z f g = record { harts = g.harts ∙ f.harts; announced = g.announced ∙ f.announced; code = g.code ∙ f.code; gone = g.gone ∙ f.gone }
+frame_more x y z f g = record { harts = g.harts ∙ f.harts; announced = g.announced ∙ f.announced; code = g.code ∙ f.code; gone = g.gone ∙ f.gone; looks = g.looks ∙ f.looks }
 
 pub size_more : (a b c : CodeState) → IsSameSize a b → IsSameSize b c → IsSameSize a c
 size_more a b c s t = (t.0 ∙ s.0, t.1 ∙ s.1, t.2 ∙ s.2)
@@ -77,16 +77,25 @@ laid_linked (v ∷ vs) place n zero w at = (linked_of (draft_at v place) n, refl
 laid_linked (v ∷ vs) place n (suc k) w at = laid_linked vs (place + (length v.words + 1)) (n + 1) k w at
 
 -- what is laid ends below the place behind it
-laid-low : (vs : List Version) (place n end i : ℕ) (u : VersionState) → end ≡ place + words_of vs → At (laid vs place n) i u → start_of u.base + u.words < end
-laid-low [] place n end i u e at = absurd (some-ne-none u (sym at))
-laid-low (v ∷ vs) place n end zero u e at =
+pub laid_low : (vs : List Version) (place n end i : ℕ) (u : VersionState) → end ≡ place + words_of vs → At (laid vs place n) i u → start_of u.base + u.words < end
+laid_low [] place n end i u e at = absurd (some-ne-none u (sym at))
+laid_low (v ∷ vs) place n end zero u e at =
     let w = words_cons v vs in
     let low : start_of (16777220 + 4 * place) + length v.words < end = omega arith in
     subst (λ (y : VersionState). start_of y.base + y.words < end) (some-injective (linked_of (draft_at v place) n) u at) low
-laid-low (v ∷ vs) place n end (suc i) u e at = let w = words_cons v vs in laid-low vs (place + (length v.words + 1)) (n + 1) end i u (omega arith) at
+laid_low (v ∷ vs) place n end (suc i) u e at = let w = words_cons v vs in laid_low vs (place + (length v.words + 1)) (n + 1) end i u (omega arith) at
+
+pub laid_all_linked : (vs : List Version) (place n i : ℕ) (u : VersionState) → At (laid vs place n) i u → u.status ≡ Linked
+laid_all_linked [] place n i u at = absurd (some-ne-none u (sym at))
+laid_all_linked (v ∷ vs) place n zero u at = sym (ap (λ (y : VersionState). y.status) (some-injective (linked_of (draft_at v place) n) u at))
+laid_all_linked (v ∷ vs) place n (suc i) u at = laid_all_linked vs (place + (length v.words + 1)) (n + 1) i u at
+
+pub laid_count : (vs : List Version) (place n : ℕ) → count_staying (laid vs place n) ≡ length vs
+laid_count [] place n = refl
+laid_count (v ∷ vs) place n = let t = laid_count vs (place + (length v.words + 1)) (n + 1) in omega arith
 
 pub laid_below : (vs : List Version) → AllBelow (laid vs 0 0) (words_of vs)
-laid_below vs = λ i u at stays. laid-low vs 0 0 (words_of vs) i u (omega arith) at
+laid_below vs = λ i u at stays. laid_low vs 0 0 (words_of vs) i u (omega arith) at
 
 pub at_middle : {A : Type 0} (xs : List A) (x : A) (rest : List A) → At (xs ++ x ∷ rest) (length xs) x
 at_middle [] x rest = refl
@@ -141,3 +150,7 @@ at_front xs x rest all order = subst (λ (l : List _). At l (length xs) x) order
 pub nothing_left : {X : Type 0} (l : List X) → length l ≡ 0 → l ≡ []
 nothing_left [] h = refl
 nothing_left (x ∷ xs) h = absurd (omega arith)
+
+pub words_long : (vs : List Version) → length vs ≤ words_of vs
+words_long [] = omega arith
+words_long (v ∷ vs) = let w = words_cons v vs in let t = words_long vs in omega arith

@@ -60,3 +60,10 @@ count_below harts number n calls least low few =
     let same : n ≤ n = omega arith in
     let one : 1 * n ≤ harts * n = mul-le 1 n harts n least same in
     omega arith
+
+-- a hart has answered fewer calls than there are where one of its calls is left
+pub place_above : (harts number n calls : ℕ) → 1 ≤ harts → number + harts * n < calls → n < calls
+place_above harts number n calls least low =
+    let same : n ≤ n = omega arith in
+    let one : 1 * n ≤ harts * n = mul-le 1 n harts n least same in
+    omega arith

@@ -15,7 +15,6 @@ use Rattle.jit_core.specs.declared.seat.Stage.{Stage}
 use Rattle.jit_core.specs.declared.seat.Stage.TheVariants as stage
 use Rattle.jit_core.specs.declared.seat.Seat.{Seat}
 use Rattle.jit_core.specs.Events.{IsOwn}
-use Rattle.jit_core.specs.Laying.{IsFrame}
 use Rattle.jit_core.specs.Seats.{WaitsFor, Running, AnsweredOver, StandsAt, SeatStands, place_of}
 
 pub at_or : {A : Type 0} (l : List A) (i : ℕ) (d : A) → i < length l → At l i (get_or l i d)
@@ -103,8 +102,15 @@ stands-same m image calls place x y h s p stage.End words code t =
     subst (λ (n : ℕ). (word : ℕ) × At y.announced h word × (0 < word) × WaitsFor s.hart stage.End × (s.hart.code_words ≡ n) × ((call : ListedCall) × At calls place call × Running m image n call p.pass s.hart)) (sym code)
     (t.0, subst (λ (l : List ℕ). At l h t.0) (sym words) t.1, t.2, t.3, t.4, t.5)
 
+-- the harts and their words, the harts that are gone and the number of code words are the same
+pub record IsBeside (x y : Whole) : Type 0 where
+  pub harts : y.harts ≡ x.harts
+  pub announced : y.announced ≡ x.announced
+  pub code : length y.code ≡ length x.code
+  pub gone : y.book.gone ≡ x.book.gone
+
 -- the seats of all harts stand while the keeper makes a step
-pub frame_stands : (m : Meaning) (image : Image) (calls : List ListedCall) (harts : ℕ) (x y : Whole) (h : ℕ) (s : Seat) → IsFrame x y → SeatStands m image calls harts x h s → SeatStands m image calls harts y h s
+pub frame_stands : (m : Meaning) (image : Image) (calls : List ListedCall) (harts : ℕ) (x y : Whole) (h : ℕ) (s : Seat) → IsBeside x y → SeatStands m image calls harts x h s → SeatStands m image calls harts y h s
 frame_stands m image calls harts x y h s frame st = record {
   part = st.part;
   at = subst (λ (l : List HartPart). At l h st.part) (sym frame.harts) st.at;

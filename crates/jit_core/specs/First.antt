@@ -1,5 +1,5 @@
 -- The first versions of a core, and its harts before their first call.
-use Rattle.std.specs.Prelude.{◌≡◌, ℕ, ◌+◌, ◌*◌, ◌<◌, List, [], ◌∷◌, ◌++◌, map, length, min, sum_by, None, vec_capacity}
+use Rattle.std.specs.Prelude.{◌≡◌, ℕ, ◌+◌, ◌*◌, ◌<◌, ◌≤◌, List, [], ◌∷◌, ◌++◌, map, length, min, sum_by, None, vec_capacity}
 use Rattle.ir_meaning.specs.Plays.{Meaning}
 use Rattle.rv_play.specs.declared.version.Version.{Version}
 use Rattle.rv_play.specs.Good.{Good}
@@ -9,7 +9,8 @@ use Rattle.code_epochs.specs.declared.state.CodeState.{CodeState}
 use Rattle.code_epochs.specs.declared.state.VersionState.{VersionState}
 use Rattle.code_epochs.specs.declared.refusals.OpenRefusal.{OpenRefusal}
 use Rattle.code_epochs.specs.declared.refusals.OpenRefusal.TheVariants.{NoRoom, NoMemory}
-use Rattle.code_epochs.specs.Sound.{At, Whole, Sound, IsStateOf}
+use Rattle.code_epochs.specs.Sound.{At, Whole, Sound, IsStateOf, Stays, start_of}
+use Rattle.code_space.specs.Space.{Space, IsFree}
 use Rattle.code_epochs.specs.Steps.{CanBegin, draft_of, unlinked, linked_of}
 use Rattle.jit_core.specs.declared.seat.Seat.{Seat}
 use Rattle.jit_core.specs.declared.seat.Stage.TheVariants as stage
@@ -52,6 +53,17 @@ pub record IsNewSeat (m : Meaning) (harts calls : ℕ) (s : Seat) : Type 0 where
   pub answers : s.answers.items ≡ []
   pub enough : (n : ℕ) → harts * n < calls → n < vec_capacity s.answers
 
+-- the ranges of versions that aren't given up end below this place
+abbrev pub AllBelow : List VersionState → ℕ → Type 0
+AllBelow versions place = (i : ℕ) (v : VersionState) → At versions i v → Stays v.status → start_of v.base + v.words < place
+
+-- a space of so many words of which the first are taken, and the others free, with room for so many gives
+pub record IsBehind (words taken gives : ℕ) (s : Space) : Type 0 where
+  pub size : s.size ≡ words
+  pub free : (w : ℕ) → IsFree s.ranges w → (taken ≤ w) × (w < words)
+  pub all : (w : ℕ) → taken ≤ w → w < words → IsFree s.ranges w
+  pub spare : gives ≤ s.spare
+
 -- each of these harts is new
 abbrev pub AreNewSeats : Meaning → ℕ → ℕ → List Seat → Type 0
 AreNewSeats m harts calls seats = (h : ℕ) (s : Seat) → At seats h s → IsNewSeat m harts calls s
@@ -63,6 +75,7 @@ pub record IsOpened (m : Meaning) (count size : ℕ) (first : List Version) (s :
   pub state : IsStateOf s whole
   pub draft : whole.book.draft ≡ None
   pub gone : whole.book.gone ≡ []
+  pub looks : whole.book.looks ≡ []
   pub harts : whole.harts ≡ []
   pub words : (length whole.announced ≡ count) × ((h w : ℕ) → At whole.announced h w → w ≡ 0)
   pub code : length whole.code ≡ size

@@ -1,15 +1,14 @@
 -- The harts of the core, each with its seat.
-use Rattle.std.specs.Prelude.{◌≡◌, ℕ, ◌≤◌, List, length}
+use Rattle.std.specs.Prelude.{ℕ, List}
 use Rattle.ir_meaning.specs.Plays.{Meaning}
 use Rattle.code_epochs.specs.declared.state.CodeState.{CodeState}
 use Rattle.code_epochs.specs.Sound.{At, Whole, Sound, IsStateOf}
 use Rattle.code_epochs.specs.Steps.{IsHere}
 use Rattle.jit_core.specs.declared.seat.Seat.{Seat}
-use Rattle.jit_core.specs.declared.seat.Stage.TheVariants as stage
 use Rattle.jit_core.specs.declared.seat.Work.{Work}
 use Rattle.jit_core.specs.Events.{HartStep}
-use Rattle.jit_core.specs.Seats.{SeatStands, place_of}
-use Rattle.jit_core.specs.Seated.{IsReady}
+use Rattle.jit_core.specs.Seats.{SeatStands}
+use Rattle.jit_core.specs.Seated.{IsReady, HasNoCall}
 
 -- each hart has what it needs for its steps
 abbrev pub AreReady : List Seat → CodeState → Work → Type 0
@@ -27,4 +26,4 @@ Moves old new before after work h =
 
 -- the hart's calls have ended
 abbrev pub IsOver : List Seat → Work → ℕ → Type 0
-IsOver seats work h = (s : Seat) × At seats h s × (s.stage ≡ stage.Idle) × (length work.calls.now ≤ place_of work.harts h (length s.answers.items))
+IsOver seats work h = (s : Seat) × At seats h s × HasNoCall s work h

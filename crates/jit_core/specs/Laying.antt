@@ -6,7 +6,7 @@ use Rattle.code_epochs.specs.declared.parts.Draft.{Draft}
 use Rattle.code_epochs.specs.Sound.{Whole, Sound, IsStateOf, start_of}
 use Rattle.code_epochs.specs.Steps.{CanBegin, draft_of, unlinked, linked_of}
 use Rattle.jit_core.specs.declared.laying.Laying.{Laying}
-use Rattle.jit_core.specs.Events.{KeeperStep}
+use Rattle.jit_core.specs.Events.{KeeperStep, lay_draft}
 
 -- the draft of the version
 abbrev pub draft_from : Laying → Draft
@@ -27,22 +27,23 @@ pub record CanLay (d : Laying) (state : CodeState) : Type 0 where
   pub room : vec_len state.versions < vec_capacity state.versions
   pub count : length state.versions.items < 1048576
 
--- the harts and their words, the harts that are gone and the number of code words are the same
+-- the harts and their words, the harts that are gone, the looks and the number of code words are the same
 pub record IsFrame (x y : Whole) : Type 0 where
   pub harts : y.harts ≡ x.harts
   pub announced : y.announced ≡ x.announced
   pub code : length y.code ≡ length x.code
   pub gone : y.book.gone ≡ x.book.gone
+  pub looks : y.book.looks ≡ x.book.looks
 
 -- One more word of the version is stored, whatever is known beside the state.
 abbrev pub Stores : CodeState → CodeState → Laying → Laying → Type 0
 Stores old new before after =
     (m : Meaning) (x : Whole) → Sound m x → IsStateOf old x → LaysAs m x before
-    → (y : Whole) × KeeperStep m x y × Sound m y × IsStateOf new y × LaysAs m y after × IsFrame x y × (y.book.versions ≡ x.book.versions)
+    → (y : Whole) × KeeperStep m x lay_draft y × Sound m y × IsStateOf new y × LaysAs m y after × IsFrame x y × (y.book.versions ≡ x.book.versions)
 
 -- The version is linked, whatever is known beside the state: the one that its symbol had is unlinked.
 abbrev pub Links : CodeState → CodeState → Laying → Type 0
 Links old new d =
     (m : Meaning) (x : Whole) → Sound m x → IsStateOf old x → LaysAs m x d
-    → (y : Whole) × KeeperStep m x y × Sound m y × IsStateOf new y × (y.book.draft ≡ None) × IsFrame x y
+    → (y : Whole) × KeeperStep m x lay_draft y × Sound m y × IsStateOf new y × (y.book.draft ≡ None) × IsFrame x y
     × (y.book.versions ≡ map (unlinked d.version.symbol) x.book.versions ++ linked_of (draft_from d) (length x.book.versions) ∷ [])

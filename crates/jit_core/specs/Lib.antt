@@ -2,6 +2,11 @@ pub mod Events
 pub mod Seats
 pub mod Seated
 pub mod Harts
+pub mod Left
 pub mod Laying
+pub mod Keeping
+pub mod Spaces
 pub mod Cores
+pub mod Simulated
+pub mod Finished
 pub mod First

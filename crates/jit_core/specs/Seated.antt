@@ -19,6 +19,10 @@ Steps old new before after work h =
     (m : Meaning) (x : Whole) → Sound m x → IsStateOf old x → IsHere x h → SeatStands m work.image.now work.calls.now work.harts x h before
     → (y : Whole) × HartStep x h y × Sound m y × IsStateOf new y × SeatStands m work.image.now work.calls.now work.harts y h after
 
+-- the hart makes no call and has none left
+abbrev pub HasNoCall : Seat → Work → ℕ → Type 0
+HasNoCall s work number = (s.stage ≡ stage.Idle) × (length work.calls.now ≤ place_of work.harts number (length s.answers.items))
+
 -- there are as many cells, words of harts and code words
 abbrev pub IsSameSize : CodeState → CodeState → Type 0
 IsSameSize old new = (length new.cells.items ≡ length old.cells.items) × (length new.harts.items ≡ length old.harts.items) × (length new.code.items ≡ length old.code.items)

@@ -1,19 +1,21 @@
 //! A core's first versions and harts.
-ghost use Rattle.std.specs.Prelude.{◌≡◌, ◌<◌, ◌≤◌, ◌+◌, ◌*◌, [], ℕ, List, length, min, replicate, None, IfOk, IfErr, OnOk, vec_len, vec_capacity};
+ghost use Rattle.std.specs.Prelude.{◌≡◌, ◌↔◌, ◌<◌, ◌≤◌, ◌+◌, ◌*◌, [], ℕ, List, length, min, replicate, None, IfOk, IfErr, OnOk, vec_len, vec_capacity};
 ghost use Rattle.ir_meaning.specs.Meaning.{meaning};
 ghost use Rattle.rv_play.specs.declared.version.Version.{Version};
 ghost use Rattle.hart.specs.Calls.{HasRoomFor};
 ghost use Rattle.code_epochs.specs.Sound.{At};
+ghost use Rattle.code_space.specs.Space.{IsFree, Space};
 ghost use Rattle.jit_core.specs.Cores.{Stands, IsKept};
 ghost use Rattle.jit_core.specs.Laying.{CanLay};
 ghost use Rattle.jit_core.specs.Seated.{IsSameSize};
 ghost use Rattle.jit_core.specs.Seats.{AreCalls};
-ghost use Rattle.jit_core.specs.First.{words_of, AreQuick, laid, Publishes, Opens, IsNewSeat, AreNewSeats, IsOpened, IsOpenCause};
+ghost use Rattle.jit_core.specs.First.{words_of, AreQuick, laid, Publishes, Opens, IsNewSeat, AreNewSeats, IsOpened, IsOpenCause, IsBehind};
 
 use crate::laying::Laying;
 use crate::seat::{Seat, Stage, Work};
 use crate::state_machine::Core;
 use code_epochs::{CodeState, OpenRefusal, reserve_version};
+use code_space::CodeSpace;
 use hart::{Hart, Image};
 use ir_meaning::calls::ListedCall;
 use ir_verify::checked::Checked;
@@ -139,24 +141,23 @@ fn function_count(all: &Checked) -> usize
     all.module().functions.len()
 }
 
-// A state with these versions, and the first code word behind them.
+// A state with these versions.
 fn opened(
     alloc: Global,
     all: &Checked,
     versions: Vec<Version>,
     harts: u32,
     code_words: u32,
-) -> Result<(CodeState, u32), NoMemory>
+) -> Result<CodeState, NoMemory>
     requires harts { harts ≤ 16 }
     requires code { code_words ≤ 4194304 }
     requires room { words_of versions.items ≤ code_words }
     requires quick { AreQuick (meaning all.now) versions.items }
-    ensures opened { IfOk result (λ r. IsOpened (meaning all.now) harts code_words versions.items r.0) }
-    ensures next { IfOk result (λ r. r.1 ≡ words_of versions.items) }
+    ensures { IfOk result (IsOpened (meaning all.now) harts code_words versions.items) }
 {
     let mut state = nothing_yet(alloc, function_count(all), harts, code_words)?;
-    let next = publish_all(alloc, &mut state, versions)?;
-    Ok((state, next))
+    publish_all(alloc, &mut state, versions)?;
+    Ok(state)
 }
 
 // A hart that makes no call yet, with room for its answers.
@@ -189,6 +190,29 @@ fn new_seats(alloc: Global, all: &Checked, harts: u32, calls: usize) -> Result<V
     Ok(seats)
 }
 
+// The space without its first words, which are taken.
+fn behind(mut space: CodeSpace, words: u32) -> CodeSpace
+    requires free { (w : ℕ) → IsFree space.ranges w ↔ (w < space.size) }
+    requires fits { words ≤ space.size }
+    ensures behind { IsBehind space.size words space.spare result }
+{
+    if words == 0 {
+        return space;
+    }
+    let _ = space.take(words);
+    space
+}
+
+// A space of so many words, of which the first are taken, with room for so many gives.
+fn space_behind(alloc: Global, words: u32, taken: u32, gives: u32) -> Result<CodeSpace, NoMemory>
+    requires { taken ≤ words }
+    ensures { IfOk result (IsBehind words taken gives) }
+{
+    let mut space = CodeSpace::new(alloc, words)?;
+    space.reserve(alloc, gives)?;
+    Ok(behind(space, taken))
+}
+
 impl<'a> Core<'a> {
     /// A core of a module with these first versions, one of each symbol in order, stored one after another in so many code words.
     /// Of so many harts, each makes the calls whose places in the list leave its number as remainder. No event has happened yet.
@@ -209,7 +233,7 @@ impl<'a> Core<'a> {
         ensures stands { IfOk result (λ c. Stands c []) }
         ensures kept { IfOk result (λ c. IsKept c) }
         ensures work { IfOk result (λ c. (c.all ≡ all.entry) × (c.work.image ≡ image.entry) × (c.work.calls ≡ calls.entry) × (c.work.harts ≡ harts)) }
-        ensures versions { IfOk result (λ c. (c.state.versions.items ≡ laid versions.items 0 0) × (c.laying ≡ None) × (c.next ≡ words_of versions.items) × (length c.state.code.items ≡ code_words)) }
+        ensures versions { IfOk result (λ c. (c.state.versions.items ≡ laid versions.items 0 0) × (c.publishing ≡ None) × (c.looked ≡ None) × IsBehind code_words (words_of versions.items) (length versions.items) c.space × (length c.state.code.items ≡ code_words)) }
         ensures seats { IfOk result (λ c. (length c.seats.items ≡ harts) × AreNewSeats (meaning all.now) harts (length calls.now) c.seats.items) }
         ensures fits { OnOk result (words_of versions.items ≤ code_words) }
         ensures cause { IfErr result (λ e. IsOpenCause code_words versions.items e) }
@@ -221,7 +245,11 @@ impl<'a> Core<'a> {
                 room: code_words,
             });
         }
-        let Ok((state, next)) = opened(alloc, all, versions, harts, code_words) else {
+        let gives = versions.len() as u32;
+        let Ok(space) = space_behind(alloc, code_words, needed as u32, gives) else {
+            return Err(OpenRefusal::NoMemory);
+        };
+        let Ok(state) = opened(alloc, all, versions, harts, code_words) else {
             return Err(OpenRefusal::NoMemory);
         };
         let Ok(seats) = new_seats(alloc, all, harts, calls.len()) else {
@@ -237,8 +265,9 @@ impl<'a> Core<'a> {
             work,
             state,
             seats,
-            laying: None,
-            next,
+            space,
+            publishing: None,
+            looked: None,
         })
     }
 }

@@ -2,10 +2,11 @@
 ghost use Rattle.std.specs.Prelude.{◌≡◌, ℕ, true, false, ◌+◌, ◌*◌, ◌<◌, ◌≤◌, ◌++◌, List, length, vec_len, vec_capacity};
 ghost use Rattle.ir_meaning.specs.Plays.{Meaning};
 ghost use Rattle.rv_play.specs.Ending.{Item};
-ghost use Rattle.hart.specs.Standing.{IsGiven, IsSameCall, item_of};
+ghost use Rattle.hart.specs.Standing.{IsGiven, IsSameCall, item_of, turns_left};
 ghost use Rattle.hart.specs.Calls.{Origin, Stands, HasRoomFor};
 ghost use Rattle.jit_core.specs.Seats.{WaitsFor, GoesOn, AreCalls, place_of};
-ghost use Rattle.jit_core.specs.Seated.{Steps, IsSameSize, IsReady};
+ghost use Rattle.jit_core.specs.Left.{seat_left};
+ghost use Rattle.jit_core.specs.Seated.{Steps, IsSameSize, IsReady, HasNoCall};
 
 use code_epochs::{CodeState, announce, go_idle, load_cell, load_epoch, load_word};
 use hart::{Given, Hart, Image, Wanted};
@@ -41,6 +42,7 @@ pub(crate) fn go_on(hart: &mut Hart, given: Given) -> Stage
     ensures waits { WaitsFor hart.new result }
     ensures stands { (m : Meaning) (o : Origin) (pass : List Item) (counted : List ℕ) → Stands m o hart.old pass counted → (all : List ℕ) × Stands m o hart.new (pass ++ item_of hart.old hart.old.phase given) all }
     ensures same { IsSameCall hart.old hart.new }
+    ensures fewer { turns_left hart.new hart.new.phase < turns_left hart.old hart.old.phase }
 {
     let mut wanted = hart.turn(given);
     loop {
@@ -67,7 +69,9 @@ impl Seat {
     pub fn step(&mut self, state: &mut CodeState, number: u32, work: Work<'_>) -> bool
         requires { IsReady self.old state.old work number }
         ensures steps { result ≡ true → Steps state.old state.new self.old self.new work.entry number }
-        ensures over { result ≡ false → (self.new ≡ self.old) × (state.new ≡ state.old) × (self.old.stage ≡ Stage.Idle) × (length work.entry.calls.now ≤ place_of work.entry.harts number (length self.old.answers.items)) }
+        ensures over { result ≡ false → (self.new ≡ self.old) × (state.new ≡ state.old) × HasNoCall self.old work.entry number }
+        ensures fewer { result ≡ true → seat_left work.entry self.new < seat_left work.entry self.old }
+        ensures going { result ≡ true → ¬ HasNoCall self.old work.entry number }
         ensures ready { IsReady self.new state.new work.entry number }
         ensures size { IsSameSize state.old state.new }
         ensures versions { state.new.versions ≡ state.old.versions }
@@ -106,6 +110,7 @@ impl Seat {
         requires more { place_of work.harts number (length self.old.answers.items) < length work.calls.now }
         requires ready { IsReady self.old state.old work number }
         ensures steps { Steps state.old state.new self.old self.new work.entry number }
+        ensures fewer { seat_left work.entry self.new < seat_left work.entry self.old }
         ensures ready { IsReady self.new state.new work.entry number }
         ensures size { IsSameSize state.old state.new }
         ensures versions { state.new.versions ≡ state.old.versions }
@@ -121,6 +126,7 @@ impl Seat {
         requires cells { self.old.hart.functions ≡ length state.old.cells.items }
         requires ready { IsReady self.old state.old work number }
         ensures steps { Steps state.old state.new self.old self.new work.entry number }
+        ensures fewer { seat_left work.entry self.new < seat_left work.entry self.old }
         ensures ready { IsReady self.new state.new work.entry number }
         ensures size { IsSameSize state.old state.new }
         ensures versions { state.new.versions ≡ state.old.versions }
@@ -137,6 +143,7 @@ impl Seat {
         requires code { self.old.hart.code_words ≡ length state.old.code.items }
         requires ready { IsReady self.old state.old work number }
         ensures steps { Steps state.old state.new self.old self.new work.entry number }
+        ensures fewer { seat_left work.entry self.new < seat_left work.entry self.old }
         ensures ready { IsReady self.new state.new work.entry number }
         ensures size { IsSameSize state.old state.new }
         ensures versions { state.new.versions ≡ state.old.versions }
@@ -155,6 +162,7 @@ impl Seat {
         requires room { vec_len self.old.answers < vec_capacity self.old.answers }
         requires ready { IsReady self.old state.old work number }
         ensures steps { Steps state.old state.new self.old self.new work.entry number }
+        ensures fewer { seat_left work.entry self.new < seat_left work.entry self.old }
         ensures ready { IsReady self.new state.new work.entry number }
         ensures size { IsSameSize state.old state.new }
         ensures versions { state.new.versions ≡ state.old.versions }
@@ -181,6 +189,7 @@ impl Seat {
         requires code { length state.old.code.items ≤ 4194304 }
         requires ready { IsReady self.old state.old work number }
         ensures steps { Steps state.old state.new self.old self.new work.entry number }
+        ensures fewer { seat_left work.entry self.new < seat_left work.entry self.old }
         ensures ready { IsReady self.new state.new work.entry number }
         ensures size { IsSameSize state.old state.new }
         ensures versions { state.new.versions ≡ state.old.versions }

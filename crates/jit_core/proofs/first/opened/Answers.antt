@@ -16,20 +16,21 @@ publish_all-requires-clause-symbols c = λ k v at.
     let cells = ap length c.in_ok-state.ensures.cells ∙ length-replicate c.function_count.result 0 in
     omega arith
 
-pub returns-clause-opened : goal.returns-clause-opened
-returns-clause-opened c =
+pub returns : goal.returns
+returns c =
     let m = meaning c.args.all.now in
     let harts = c.args.harts in
     let code = c.args.code_words in
     let x = first_whole m harts code in
     let e = c.in_ok-state.ensures in
     let state : IsStateOf c.in_ok-state.state x = (e.cells ∙ ap (λ (n : ℕ). replicate n 0) c.function_count.ensures.value, e.epoch, e.harts, e.code, e.versions) in
-    let t = c.in_ok-next.ensures.opens m x (first_sound m harts code c.requires.harts c.requires.code) state refl refl c.requires.quick in record {
+    let t = c.in_ok-publish_all.ensures.opens m x (first_sound m harts code c.requires.harts c.requires.code) state refl refl c.requires.quick in record {
       whole = t.0;
       sound = t.1;
       state = t.2;
       draft = t.3;
       gone = t.4.gone;
+      looks = t.4.looks;
       harts = t.4.harts;
       words = (ap length t.4.announced ∙ length-replicate harts 0, λ h w at. at_zeros harts h w (subst (λ (l : List ℕ). At l h w) t.4.announced at));
       code = t.4.code ∙ length-replicate code 0;

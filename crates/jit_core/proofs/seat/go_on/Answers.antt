@@ -1,3 +1,4 @@
+use Rattle.std.proofs.Common.{arith}
 use Rattle.hart.proofs.Turning.{same_then}
 use Rattle.jit_core.proofs.Turning as T
 use Rattle.jit_core.proofs.seat.go_on.Goals as goal
@@ -8,6 +9,7 @@ loop-wanted-init c = record {
   asked = T.next_asked c.turn-wanted.new.self c.args.hart.now.phase c.turn-wanted.result c.requires.goes c.turn-wanted.ensures.next;
   stands = λ m o pass counted s. (_, c.turn-wanted.ensures.stands m o pass counted s);
   same = c.turn-wanted.ensures.same;
+  fewer = c.turn-wanted.ensures.fewer;
 }
 
 pub returns-in-Cell-clause-stands : goal.returns-in-Cell-clause-stands
@@ -32,4 +34,5 @@ loop-wanted-preserved c =
           let after = c.turn-wanted-in_default.ensures.stands m o _ before.0 before.1 in
           (_, T.count_stands h h' k.0 m o _ _ k.1 after);
       same = same_then c.args.hart.now h h' i.same c.turn-wanted-in_default.ensures.same;
+      fewer = (let a = i.fewer in let b = c.turn-wanted-in_default.ensures.fewer in omega arith);
     }

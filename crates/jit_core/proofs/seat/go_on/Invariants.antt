@@ -1,4 +1,4 @@
-use Rattle.std.proofs.Common.{ℕ, List, ◌++◌}
+use Rattle.std.proofs.Common.{ℕ, ◌<◌, List, ◌++◌}
 use Rattle.ir_meaning.specs.Plays.{Meaning}
 use Rattle.rv_play.specs.Ending.{Item}
 use Rattle.hart.specs.Standing.{IsSameCall, IsAsked, wanted_by, turns_left, item_of}
@@ -11,6 +11,7 @@ invariant-loop-wanted l = record {
   asked : IsAsked l.hart l.wanted;
   stands : (m : Meaning) (o : Origin) (pass : List Item) (counted : List ℕ) → Stands m o l.fn.hart pass counted → (all : List ℕ) × Stands m o l.hart (pass ++ item_of l.fn.hart l.fn.hart.phase l.fn.given) all;
   same : IsSameCall l.fn.hart l.hart;
+  fewer : turns_left l.hart l.hart.phase < turns_left l.fn.hart l.fn.hart.phase;
 }
 
 abbrev pub decreases-loop-wanted : goal.decreases-loop-wanted

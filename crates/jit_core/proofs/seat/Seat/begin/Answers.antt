@@ -7,6 +7,7 @@ use Rattle.hart.proofs.Stores.{bytes_in_range}
 use Rattle.code_epochs.specs.Sound.{At}
 use Rattle.code_epochs.proofs.Lists.{at_index}
 use Rattle.jit_core.specs.Seats.{place_of}
+use Rattle.jit_core.proofs.Falling.{begin_falls}
 use Rattle.jit_core.proofs.Stands.{at_or, seat_of}
 use Rattle.jit_core.proofs.Stepping.{begin_steps}
 use Rattle.jit_core.proofs.Readying.{stays_ready, can_wait}
@@ -82,3 +83,18 @@ returns-clause-ready c =
     (ap (λ v. length v.items) frame.0) (ap length c.announce.ensures.change ∙ length-set c.args.state.now.harts.items c.args.number c.args.epoch) (ap (λ v. length v.items) frame.2)
     (a.functions ∙ b.functions ∙ d.known.0) (a.room ∙ b.room ∙ ap length d.bytes ∙ T.image_length work.image.now s.hart.bytes.items r.image) refl r.count
     (can_wait work c.args.number (length s.answers.items) new h3 c.go_on-self.result c.go_on-self.ensures.waits (a.code_words ∙ b.code_words ∙ d.code ∙ size) c.requires.more)
+
+pub returns-clause-fewer : goal.returns-clause-fewer
+returns-clause-fewer c =
+    let calls = c.args.work.calls.now in
+    let place = c.args.number + c.args.work.harts * c.len.result in
+    let vec = c.args.self.now.answers.ok.0 in
+    let len = c.len.ensures in
+    let count : c.len.result ≡ length c.args.self.now.answers.items = omega arith in
+    let low : place < length calls = subst (λ (n : ℕ). c.args.number + c.args.work.harts * n < length calls) (sym count) c.requires.more in
+    let call = c.requires.calls place _ (at_index calls place c.index-work-place.result low c.index-work-place.is) in
+    let h1 = c.start.new.self in
+    let a = c.go_on-self.ensures.fewer in
+    let b = c.turn.ensures.fewer in
+    begin_falls c.args.work c.args.self.now c.go_on-self.new.hart h1 c.args.epoch c.go_on-self.result c.index-work-place.result.turns c.requires.stage c.go_on-self.ensures.waits (omega arith) c.start.ensures.phase
+    (c.start.ensures.left ∙ ap (λ (k : ListedCall). 256 * k.turns) (sym c.index-work-place.is)) call.turns

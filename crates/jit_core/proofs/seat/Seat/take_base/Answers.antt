@@ -1,6 +1,8 @@
 use Rattle.std.proofs.Common.{ap, length, refl, sym, subst, ◌∙◌}
 use Rattle.jit_core.specs.declared.seat.Stage.{Stage}
 use Rattle.jit_core.specs.Seated.{CanStep}
+use Rattle.jit_core.specs.declared.seat.Stage.TheVariants as stage
+use Rattle.jit_core.proofs.Falling.{go_falls}
 use Rattle.jit_core.proofs.Stands.{seat_of}
 use Rattle.jit_core.proofs.Stepping.{cell_steps}
 use Rattle.jit_core.proofs.Readying.{stays_ready, can_wait}
@@ -23,3 +25,6 @@ returns-clause-ready c =
     stays_ready s (seat_of c.go_on-self.new.hart c.go_on-self.result s) c.args.state.now c.load_cell-base.new.state c.args.work c.args.number r
     (ap (λ x. length x.cells.items) same) (ap (λ x. length x.harts.items) same) code went.functions went.room refl r.count
     (can_wait c.args.work c.args.number n c.load_cell-base.new.state c.go_on-self.new.hart c.go_on-self.result c.go_on-self.ensures.waits (went.code_words ∙ can.1 ∙ sym code) can.2)
+
+pub returns-clause-fewer : goal.returns-clause-fewer
+returns-clause-fewer c = go_falls c.args.work c.args.self.now c.go_on-self.new.hart (stage.Cell c.args.symbol) c.go_on-self.result c.requires.stage c.requires.waits c.go_on-self.ensures.waits c.go_on-self.ensures.fewer

@@ -1,6 +1,8 @@
 use Rattle.std.proofs.Common.{◌≡◌, ◌-◌, ◌/◌, ap, length, refl, sym, subst, ◌∙◌, arith}
 use Rattle.jit_core.specs.declared.seat.Stage.{Stage}
 use Rattle.jit_core.specs.Seated.{CanStep}
+use Rattle.jit_core.specs.declared.seat.Stage.TheVariants as stage
+use Rattle.jit_core.proofs.Falling.{go_falls}
 use Rattle.jit_core.proofs.Stands.{seat_of}
 use Rattle.jit_core.proofs.Readying.{stays_ready, can_wait}
 use Rattle.code_epochs.specs.Steps.{address_of}
@@ -27,3 +29,6 @@ returns-clause-ready c =
     stays_ready s (seat_of c.go_on-self.new.hart c.go_on-self.result s) c.args.state.now c.load_word-word.new.state c.args.work c.args.number r
     (ap (λ x. length x.cells.items) same) (ap (λ x. length x.harts.items) same) code went.functions went.room refl r.count
     (can_wait c.args.work c.args.number n c.load_word-word.new.state c.go_on-self.new.hart c.go_on-self.result c.go_on-self.ensures.waits (went.code_words ∙ can.1 ∙ sym code) can.2)
+
+pub returns-clause-fewer : goal.returns-clause-fewer
+returns-clause-fewer c = go_falls c.args.work c.args.self.now c.go_on-self.new.hart (stage.Fetch c.args.address) c.go_on-self.result c.requires.stage c.requires.waits c.go_on-self.ensures.waits c.go_on-self.ensures.fewer

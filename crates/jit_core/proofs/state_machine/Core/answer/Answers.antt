@@ -14,7 +14,7 @@ returns-then-place-len-clause-none c = λ s at.
     let vec = seats.ok.0 in
     let len = c.len-harts.ensures in
     let e : n ≡ length seats.items = omega arith in
-    let some : 0 < n = (let a = c.requires.harts.0 in omega arith) in
+    let some : 0 < n = (let a = c.requires.kept.harts.0 in omega arith) in
     let small : c.args.call % n < length seats.items = subst (λ (k : ℕ). c.args.call % n < k) e (mod-lt c.args.call some) in
     let seat = c.index-seat.result.now in
     let here : At seats.items (c.args.call % n) seat = at_index seats.items (c.args.call % n) seat small c.index-seat.ensures in
@@ -26,14 +26,16 @@ returns-then-place-len-clause-none c = λ s at.
     subst (λ (k : ℕ). length s.answers.items ≤ c.args.call / k) e (subst (λ (z : Seat). length z.answers.items ≤ c.args.call / n) same most)
 
 pub returns-clause-right : goal.returns-clause-right
-returns-clause-right c = λ told s.
+returns-clause-right c =
+    let told = c.requires.kept.stands.0 in
+    let s = c.requires.kept.stands.1 in
     let core = c.args.self.now in
     let seats = core.seats in
     let n = c.len-harts.result in
     let vec = seats.ok.0 in
     let len = c.len-harts.ensures in
     let e : n ≡ length seats.items = omega arith in
-    let some : 0 < n = (let a = c.requires.harts.0 in omega arith) in
+    let some : 0 < n = (let a = c.requires.kept.harts.0 in omega arith) in
     let small : c.args.call % n < length seats.items = subst (λ (k : ℕ). c.args.call % n < k) e (mod-lt c.args.call some) in
     let seat = c.index-seat.result.now in
     let here : At seats.items (c.args.call % n) seat = at_index seats.items (c.args.call % n) seat small c.index-seat.ensures in
@@ -41,6 +43,6 @@ returns-clause-right c = λ told s.
     let many = c.len.ensures in
     let before = c.if-place-len.false in
     let low : c.args.call / n < length seat.answers.items = omega arith in
-    let harts : core.work.harts ≡ n = c.requires.harts.1 ∙ sym e in
+    let harts : core.work.harts ≡ n = c.requires.kept.harts.1 ∙ sym e in
     let place : place_of core.work.harts (c.args.call % n) (c.args.call / n) ≡ c.args.call = ap (λ (k : ℕ). c.args.call % n + k * (c.args.call / n)) harts ∙ mod-add-div c.args.call n in
     answer_right core told c.args.call (c.args.call / n) (c.args.call % n) seat c.index.result.now s here (at_index seat.answers.items (c.args.call / n) c.index.result.now low c.index.ensures) place

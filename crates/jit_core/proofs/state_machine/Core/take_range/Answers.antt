@@ -1,36 +1,45 @@
-use Rattle.std.proofs.Common.{◌≡◌, ℕ, ◌+◌, ◌-◌, ◌*◌, ◌/◌, ◌<◌, List, Option, length, refl, subst, inl, arith}
-use Rattle.code_epochs.specs.declared.state.VersionState.{VersionState}
-use Rattle.code_epochs.specs.Sound.{start_of}
-use Rattle.jit_core.specs.declared.event.Event.TheVariants as event
-use Rattle.jit_core.specs.declared.event.Stepped.TheVariants as stepped
-use Rattle.jit_core.specs.declared.laying.Laying.{Laying}
-use Rattle.jit_core.specs.Cores.{LaysIn, meaning_of}
-use Rattle.jit_core.proofs.Standing.{runs_more, may_begin}
+use Rattle.std.proofs.Common.{◌≡◌, ◌⊎◌, ◌↔◌, ◌≤◌, ℕ, ◌+◌, ◌*◌, ◌<◌, Some, length, ap, subst, arith}
+use Rattle.code_space.specs.Space.{IsFree, HasRoom, IsFirstRoom}
+use Rattle.jit_core.specs.declared.publishing.Publishing.TheVariants.{Storing}
+use Rattle.jit_core.proofs.Ordering.{unstored, taken_stands, taken_kept}
 use Rattle.jit_core.proofs.state_machine.Core.take_range.Goals as goal
+
+pub unreachable-requires : goal.unreachable-requires
+unreachable-requires c =
+    let me = c.args.self.now in
+    let len : c.len.result ≡ length c.args.version.words = (let l = c.len.ensures in omega arith) in
+    absurd (c.in_default.ensures.first c.requires.fits.1.0 (subst (λ (n : ℕ). HasRoom me.space.ranges c.requires.fits.1.0 (n + 1)) (let e : length c.args.version.words ≡ c.len.result = omega arith in e) c.requires.fits.1.1))
 
 pub returns-clause-stands : goal.returns-clause-stands
 returns-clause-stands c = λ told s.
-    let core = c.args.self.now in
-    let m = meaning_of core in
-    let x = s.whole in
-    let v = c.args.version in
-    let next = core.next in
-    let base = 16777220 + 4 * c.from.result in
+    let me = c.args.self.now in
+    let e = c.in-Some.ensures in
+    let place = c.in-Some.place in
     let same = c.from.ensures in
-    let is : base ≡ 16777220 + 4 * next = omega arith in
-    let none = subst (λ (o : Option Laying). LaysIn m x next o) c.requires.none s.laying in
-    let room = subst (λ (l : List VersionState). length l < 1048576) s.state.4 c.requires.room.1 in
-    let range = subst (λ (l : List ℕ). next + length v.words < length l) s.state.3 c.requires.range in
-    let begins = may_begin m x v.symbol base next v.words s.sound none room c.requires.good c.requires.symbol is range s.below in
-    let len = c.len.ensures in record {
-      first = s.first;
-      whole = x;
-      sound_first = s.sound_first;
-      runs = runs_more m s.first x x told record { event = event.Order v; answer = stepped.Taken } s.runs refl;
-      sound = s.sound;
-      state = s.state;
-      gone = s.gone;
-      seats = s.seats;
-      laying = (inl (refl, begins), (let e : start_of base ≡ (base - 16777220) / 4 = refl in omega arith));
-      below = λ i u at stays. let b = s.below i u at stays in omega arith;
-    }
+    let len : c.len.result ≡ length c.args.version.words = (let l = c.len.ensures in omega arith) in
+    let base : 16777220 + 4 * c.from.result ≡ 16777220 + 4 * place = omega arith in
+    taken_stands me c.args.version (16777220 + 4 * c.from.result) place c.take.new.self told base c.requires.none c.requires.symbol c.requires.good c.requires.count c.take.ensures.size
+    (subst (λ (n : ℕ). (w : ℕ) → IsFree c.take.new.self.ranges w ↔ (IsFree me.space.ranges w × ((w < place) ⊎ (place + (n + 1) ≤ w)))) len e.free)
+    (subst (λ (n : ℕ). HasRoom me.space.ranges place (n + 1)) len e.first.0) (subst (λ (n : ℕ). place + (n + 1) ≤ me.space.size) len e.count.1) s
+
+pub returns-clause-kept : goal.returns-clause-kept
+returns-clause-kept c =
+    let me = c.args.self.now in
+    let e = c.in-Some.ensures in
+    let place = c.in-Some.place in
+    let same = c.from.ensures in
+    let len : c.len.result ≡ length c.args.version.words = (let l = c.len.ensures in omega arith) in
+    let base : 16777220 + 4 * c.from.result ≡ 16777220 + 4 * place = omega arith in
+    taken_kept me c.args.version (16777220 + 4 * c.from.result) place c.take.new.self base c.requires.none c.requires.symbol c.requires.good c.requires.memory c.requires.count c.take.ensures.size c.take.ensures.spare
+    (subst (λ (n : ℕ). (w : ℕ) → IsFree c.take.new.self.ranges w ↔ (IsFree me.space.ranges w × ((w < place) ⊎ (place + (n + 1) ≤ w)))) len e.free)
+    (subst (λ (n : ℕ). HasRoom me.space.ranges place (n + 1)) len e.first.0) (subst (λ (n : ℕ). place + (n + 1) ≤ me.space.size) len e.count.1) c.requires.kept
+
+pub returns-clause-answer : goal.returns-clause-answer
+returns-clause-answer c =
+    let me = c.args.self.now in
+    let e = c.in-Some.ensures in
+    let place = c.in-Some.place in
+    let same = c.from.ensures in
+    let len : c.len.result ≡ length c.args.version.words = (let l = c.len.ensures in omega arith) in
+    let base : 16777220 + 4 * c.from.result ≡ 16777220 + 4 * place = omega arith in
+    (c.requires.none, c.requires.count, (place, subst (λ (n : ℕ). IsFirstRoom me.space.ranges place (n + 1)) len e.first, ap (λ (b : ℕ). Some (Storing (unstored c.args.version b))) base))
