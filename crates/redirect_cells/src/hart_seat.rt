@@ -1,5 +1,5 @@
 //! A hart's seat.
-ghost use Rattle.std.specs.Prelude.{◌≡◌, ◌+◌, ◌*◌, ◌%◌, ◌-◌, ◌/◌, ◌<◌, ◌≤◌, [], true};
+ghost use Rattle.std.specs.Prelude.{◌≡◌, ◌+◌, ◌*◌, ◌%◌, ◌-◌, ◌/◌, ◌<◌, ◌≤◌, [], length, true};
 ghost use Rattle.code_epochs.specs.Steps.{with_item, ended_part};
 ghost use Rattle.code_epochs.specs.declared.parts.Item.TheVariants.{Held, Saw};
 ghost use Rattle.std.specs.Coded.{Coded-set};
@@ -22,6 +22,7 @@ pub struct HartSeat<'a> {
     ghost hart: { is_hart seat.me.0.role ≡ true },
     ghost number_is: { number_in seat.me.0.role ≡ number },
     ghost number_fits: { number < table.now.harts },
+    ghost rested: { word_in seat.me.0.role ≡ 0 → length (part_of seat.me.0).pass ≡ 0 },
 }
 
 impl HartSeat<'_> {
@@ -37,6 +38,13 @@ impl HartSeat<'_> {
         ensures { result ≡ self.now.table.now.code_words }
     {
         self.table.code_words
+    }
+
+    /// The number of the hart among those of the table.
+    pub fn number(&self) -> u32
+        ensures { result ≡ self.now.number }
+    {
+        self.number
     }
 
     /// Loads the cell of a symbol.

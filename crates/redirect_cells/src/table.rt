@@ -74,6 +74,13 @@ impl CodeTable {
         Ok((table, Opening { seat }))
     }
 
+    /// The number of symbols of the table.
+    pub fn symbols(&self) -> u32
+        ensures { result ≡ self.now.functions }
+    {
+        self.functions
+    }
+
     // The word of the table that has this code word.
     pub(crate) fn code_place(&self, place: usize) -> usize
         requires { place < self.now.code_words }

@@ -1,0 +1,5 @@
+pub mod Calls
+pub mod Runs
+pub mod Runners
+pub mod Opened
+pub mod Settling

@@ -1,0 +1,3 @@
+pub mod Reserves
+pub mod Rows
+pub mod Sessions
