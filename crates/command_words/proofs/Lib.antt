@@ -1,0 +1,10 @@
+pub mod Lookups
+pub mod Dashes
+pub mod Following
+pub mod Turns
+pub mod Trails
+pub mod Shaping
+pub mod Ending
+pub mod Given
+pub mod Digits
+pub mod Forms
