@@ -16,6 +16,7 @@ use ir_meaning::calls::ListedCall;
 use ir_verify::checked::Checked;
 use jit_calls::{answer_text, any_unanswered};
 use quick_blocks::compile::quick_flow;
+use quick_blocks::places::Places;
 use quick_blocks::taken::takes;
 use rv_play::version::Version;
 use std::alloc::Global;
@@ -29,9 +30,10 @@ fn quick_versions(alloc: Global, checked: &Checked) -> Result<Vec<Version>, OutO
     ensures made { IfOk result (λ versions. AreMade checked.now versions.items) }
     ensures count { IfOk result (λ versions. length versions.items ≡ length checked.now.module_.functions) }
 {
+    let globals = Places::new(alloc, checked)?;
     let mut versions = Vec::new(alloc);
     for symbol in 0..checked.module().functions.len() {
-        versions.push(quick_flow(alloc, checked, symbol as u32)?)?;
+        versions.push(quick_flow(alloc, checked, &globals, symbol as u32)?)?;
     }
     Ok(versions)
 }

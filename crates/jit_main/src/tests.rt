@@ -59,7 +59,11 @@ const KEEPS: &str =
 const SWITCHES: &str =
     "define i8 @d(i8 %a) {\n  switch i8 %a, label %other [ i8 -1, label %last  i8 3, label %third ]\nother:\n  ret i8 %a\nlast:\n  ret i8 10\nthird:\n  ret i8 20\n}\n";
 
-/// Data memory of a function's own has no quick code yet.
+/// The address of a part.
+const PARTS: &str =
+    "define i64 @d() {\n  %p = getelementptr i64, ptr null, i64 1\n  ret i64 3\n}\n";
+
+/// Data memory of a function's own.
 const ALLOCATES: &str = "define i64 @d() {\n  %p = alloca i64\n  ret i64 3\n}\n";
 
 fn words(alloc: Global, texts: &[&str]) -> Result<Vec<String>, AllocError> {
@@ -191,7 +195,8 @@ fn modules_and_their_calls(rt: HostRuntime) -> Result<(), Fail> {
             "@d(7) = 7\n@d(-1) = 10\n@d(3) = 20\n",
             "",
         ),
-        (ALLOCATES, "@d()\n", 2, "", "reopt: module: not yet\n"),
+        (ALLOCATES, "@d()\n", 0, "@d() = 3\n", ""),
+        (PARTS, "@d()\n", 0, "@d() = 3\n", ""),
         (
             ADD,
             "@add(i64 2)",
