@@ -37,7 +37,8 @@ use Rattle.fast_isel.proofs.Numbers.{operand-inside, width-small, gives-some}
 use Rattle.fast_isel.proofs.Typing.{integer-value, cast-from, cast-to}
 use Rattle.fast_isel.proofs.DataMemory.{stored-value}
 use Rattle.quick_blocks.specs.Written.{AreLimited}
-use Rattle.quick_blocks.specs.Taken.{is_width, are_widths, is_given, is_operand, are_edge_operands, are_arguments, is_answer, are_cases, is_integer, is_index, is_index_at, are_indices, is_built_in, is_form, are_forms, are_blocks, is_taken, are_taken, IsTaken}
+use Rattle.quick_pieces.specs.Operands.{is_width, are_widths, is_given, is_operand, are_arguments, is_answer, is_integer, is_index, is_index_at, are_indices, is_built_in}
+use Rattle.quick_blocks.specs.Taken.{are_edge_operands, are_cases, is_form, are_forms, are_blocks, is_taken, are_taken, IsTaken}
 use Rattle.quick_blocks.proofs.Limits.{limited-at}
 use Rattle.quick_blocks.specs.Laws.{EveryCheckedIsTaken}
 use Rattle.quick_blocks.proofs.Leading.{path-is}

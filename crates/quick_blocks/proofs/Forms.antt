@@ -25,7 +25,8 @@ use Rattle.ir_verify.proofs.Lists.{every_at, or_none_left, or_none_right}
 use Rattle.rv_asm.specs.Layout.{IsAssembly}
 use Rattle.fast_isel.specs.Assembly.{code_of}
 use Rattle.quick_blocks.specs.Written.{AreLimited, AreWordsOf, AreQuickWords, begins_plainly}
-use Rattle.quick_blocks.specs.Taken.{is_width, are_widths, is_given, is_operand, are_arguments, are_indices, is_built_in, is_form, are_forms, are_blocks, is_taken, are_taken}
+use Rattle.quick_pieces.specs.Operands.{is_width, are_widths, is_given, is_operand, are_arguments, are_indices, is_built_in}
+use Rattle.quick_blocks.specs.Taken.{is_form, are_forms, are_blocks, is_taken, are_taken}
 use Rattle.fast_isel.specs.Blocks.{is_headless, edges_of, edges_in, block_label, label_count}
 use Rattle.fast_isel.specs.Forms.{IsForm, IsJump, IsFlow}
 use Rattle.ir_limits.specs.Limits.{op_limit}
@@ -58,18 +59,6 @@ form-is n blocks gives (CallBuiltIn which arguments) h limit = λ no-bytes. by_k
     by_kind true e h = absurd (let bad : true ≡ false = e in cc)
     by_kind false e h = eqb-true (length arguments) 2 (and_parts (is_width gives) (length arguments == 2) h).1
 form-is n blocks gives (Switch of a otherwise cases) h limit = tt
-
--- the first of the types, or of the arguments, that are left
-pub width_first : (tys : List Ty) (i : ℕ) (d : Ty) → i < length tys → are_widths (drop i tys) ≡ true → (is_width (get_or tys i d) ≡ true) × (are_widths (drop (i + 1) tys) ≡ true)
-width_first tys i d lt h =
-    let all = drop-cons tys i d lt ∙ ap (λ (k : ℕ). get_or tys i d ∷ drop k tys) (let z : suc i ≡ i + 1 = omega arith in z) in
-    and_parts (is_width (get_or tys i d)) (are_widths (drop (i + 1) tys)) (sym (ap are_widths all) ∙ h)
-
-pub argument_first : (n : ℕ) (arguments : List (Ty × Operand)) (i : ℕ) (d : Ty × Operand) → i < length arguments → are_arguments n (drop i arguments) ≡ true
-    → (is_operand n (get_or arguments i d).1 ≡ true) × (are_arguments n (drop (i + 1) arguments) ≡ true)
-argument_first n arguments i d lt h =
-    let all = drop-cons arguments i d lt ∙ ap (λ (k : ℕ). get_or arguments i d ∷ drop k arguments) (let z : suc i ≡ i + 1 = omega arith in z) in
-    and_parts (is_operand n (get_or arguments i d).1) (are_arguments n (drop (i + 1) arguments)) (sym (ap (are_arguments n) all) ∙ h)
 
 pub forms-at : (n blocks : ℕ) (insts : List Inst) (k : ℕ) (inst : Inst) → are_forms n blocks insts ≡ true → slice_get insts k ≡ Some inst → is_form n blocks inst.gives inst.op ≡ true
 forms-at n blocks [] k inst h e = absurd (let bad : ⊥ = cc in bad)

@@ -25,9 +25,10 @@ use Rattle.fast_isel.specs.Blocks.{label_count, is_headless, first_to, case_labe
 use Rattle.fast_isel.specs.Forms.{IsFlow, IsJump}
 use Rattle.fast_isel.specs.Data.{takes_data, save_code}
 use Rattle.fast_isel.specs.Assembly.{put, labelled, code_of}
-use Rattle.quick_blocks.specs.Written.{put_code, AreFree}
+use Rattle.quick_pieces.specs.Written.{put_code}
+use Rattle.quick_blocks.specs.Written.{AreFree}
 use Rattle.fast_isel.proofs.Fresh.{Rise, rise-plain, rise-edge, rise-case, rise-cases, rise-op, rise-block, EndsByJump, ends-drop, none-behind}
-use Rattle.quick_blocks.proofs.Put.{put-none, then-put, code_none, code_is, code_put, more_code, code_code}
+use Rattle.quick_pieces.proofs.Put.{put-none, then-put, code_none, code_is, code_put, more_code, code_code}
 use Rattle.quick_blocks.proofs.Counts.{one_if, number-step, free-behind, free-label, free-first}
 
 -- ---- edges

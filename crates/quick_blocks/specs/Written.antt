@@ -1,11 +1,9 @@
--- Code as it is written, and its words.
-use Rattle.std.specs.Prelude.{Bool, true, not, [], ◌∷◌, ◌≡◌, ℕ, ◌+◌, ◌<◌, ◌≤◌, slice_get, List, ◌++◌, length, map, Option, Some, None, if◌then◌else◌}
+-- The words of a function, and where its blocks and labels stand.
+use Rattle.std.specs.Prelude.{Bool, true, not, [], ◌∷◌, ◌≡◌, ℕ, ◌+◌, ◌<◌, ◌≤◌, slice_get, List, length, Option, Some, None, if◌then◌else◌}
 use Rattle.ir_core.specs.declared.program.Function.{Function}
 use Rattle.ir_core.specs.declared.program.Global.{Global}
 use Rattle.ir_core.specs.declared.code.Inst.{Inst}
 use Rattle.ir_core.specs.Units.{has_result}
-use Rattle.rv_asm.specs.declared.item.Item.TheVariants as asm
-use Rattle.rv_core.specs.declared.instr.Instr.{Instr}
 use Rattle.ir_flow.specs.Code.{is_phi}
 use Rattle.rv_asm.specs.Code.{Code}
 use Rattle.rv_asm.specs.Layout.{IsAssembly}
@@ -14,10 +12,6 @@ use Rattle.ir_meaning.specs.Step.{Program, function_at, insts_at, number_at}
 use Rattle.fast_isel.specs.Blocks.{block_label, label_count}
 use Rattle.fast_isel.specs.Assembly.{code_of}
 use Rattle.quick_blocks.specs.declared.starts.Start.{Start}
-
--- code with these instructions behind it
-unfoldable pub put_code : Code → List Instr → Code
-put_code code instrs = record code { items = code.items ++ map asm.Plain instrs }
 
 -- the words of a function's quick code
 abbrev pub AreWordsOf : List Global → ℕ → ℕ → List ℕ → Option Function → Type 0

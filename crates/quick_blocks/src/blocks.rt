@@ -6,31 +6,33 @@ ghost use Rattle.fast_isel.specs.Blocks.{both_items, op_items, insts_items, bloc
 ghost use Rattle.fast_isel.specs.Data.{takes_data as takes_data_of};
 ghost use Rattle.fast_isel.specs.Assembly.{put, labelled, code_of as code_of_function};
 ghost use Rattle.ir_limits.specs.Limits.{op_limit};
-ghost use Rattle.quick_blocks.specs.Written.{put_code, given_by, AreLimited, AreStarts, AreFree};
-ghost use Rattle.quick_blocks.specs.Taken.{is_form, is_operand, is_taken};
+ghost use Rattle.quick_pieces.specs.Written.{put_code};
+ghost use Rattle.quick_blocks.specs.Written.{given_by, AreLimited, AreStarts, AreFree};
+ghost use Rattle.quick_pieces.specs.Operands.{is_operand};
+ghost use Rattle.quick_blocks.specs.Taken.{is_form, is_taken};
 ghost use Rattle.fast_isel.specs.Forms.{IsFlow, IsJump};
 
-use crate::allocas::{put_alloca, put_save, takes_data};
-use crate::built_ins::put_built_in;
 use crate::jumps::{put_branch, put_label, put_last_edge, put_phis};
-use crate::operations::{
-    put_binary, put_cast, put_choice, put_compare, put_load, put_same, put_store,
-};
-use crate::parts::put_part;
-use crate::pieces::{put_call, put_parameters, put_prologue, put_return};
-use crate::places::Places;
 use crate::starts::{Start, first_in, insts_in, label_in, starts_of};
 use crate::switches::put_switch;
 use ir_core::code::{Inst, Op, Operand};
 use ir_core::program::Function;
 use ir_core::types::Ty;
+use quick_pieces::allocas::{put_alloca, put_save, takes_data};
+use quick_pieces::built_ins::put_built_in;
+use quick_pieces::operations::{
+    put_binary, put_cast, put_choice, put_compare, put_load, put_same, put_store,
+};
+use quick_pieces::parts::put_part;
+use quick_pieces::pieces::{put_call, put_parameters, put_prologue, put_return};
+use quick_pieces::places::Places;
 use rj_num::NoMemory;
 use rv_asm::asm::Asm;
 use rv_core::instr::BranchOp;
 use std::alloc::Global;
 
 // An instruction of a block, which gives the value of that number where it has a result.
-#[tactic(auto, using(crate::proofs::Forms::few_values, crate::proofs::Put::put_none))]
+#[tactic(auto, using(crate::proofs::Forms::few_values, quick_pieces::proofs::Put::put_none))]
 fn put_inst(
     asm: &mut Asm,
     alloc: Global,

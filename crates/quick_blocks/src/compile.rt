@@ -13,10 +13,10 @@ ghost use Rattle.fast_isel.specs.Forms.{IsFlow};
 ghost use Rattle.quick_blocks.specs.Taken.{is_taken};
 
 use crate::blocks::code_of;
-use crate::places::Places;
 use ir_core::program::Function;
 use ir_core::units::values_of;
 use ir_verify::checked::Checked;
+use quick_pieces::places::Places;
 use rj_num::NoMemory;
 use rv_play::version::{MakeRefusal, Maker, Version};
 use sqlite_items::Items;

@@ -3,20 +3,14 @@
 
 #[cfg(test)]
 mod address_tests;
-pub mod allocas;
 pub mod blocks;
-pub mod built_ins;
 pub mod compile;
 pub mod jumps;
 pub mod laws;
-pub mod moves;
-pub mod operations;
-pub mod parts;
-pub mod pieces;
-pub mod places;
 pub mod starts;
 pub mod switches;
 pub mod taken;
 #[cfg(test)]
 mod tests;
-pub mod work;
+
+pub use quick_pieces::places;

@@ -3,15 +3,16 @@ ghost use Rattle.std.specs.Prelude.{◌≡◌, ◌≤◌, length, All, true};
 ghost use Rattle.ir_verify.specs.Small.{IsSmall};
 ghost use Rattle.ir_meaning.specs.Step.{moves_bytes as moves_bytes_of};
 ghost use Rattle.fast_isel.specs.Parts.{is_index as is_index_operand, is_literal as is_literal_operand, are_steps as are_steps_of, is_path as is_path_of};
-ghost use Rattle.quick_blocks.specs.Taken.{is_width as is_width_type, are_widths as are_widths_types, is_given as is_given_type, is_operand as is_operand_at, are_edge_operands as are_edge_operands_at, are_arguments as are_arguments_at, is_answer as is_answer_at, are_cases as are_cases_at, is_integer as is_integer_type, is_index as is_index_of, is_index_at as is_index_at_of, are_indices as are_indices_at, is_built_in as is_built_in_of, is_form as is_form_at, are_forms as are_forms_at, are_blocks as are_blocks_at, is_taken as is_taken_function, are_taken as are_taken_functions};
+ghost use Rattle.quick_pieces.specs.Operands.{is_width as is_width_type, are_widths as are_widths_types, is_given as is_given_type, is_operand as is_operand_at, are_arguments as are_arguments_at, is_answer as is_answer_at, is_integer as is_integer_type, is_index as is_index_of, is_index_at as is_index_at_of, are_indices as are_indices_at, is_built_in as is_built_in_of};
+ghost use Rattle.quick_blocks.specs.Taken.{are_edge_operands as are_edge_operands_at, are_cases as are_cases_at, is_form as is_form_at, are_forms as are_forms_at, are_blocks as are_blocks_at, is_taken as is_taken_function, are_taken as are_taken_functions};
 
-use crate::moves::moves_bytes;
-use crate::parts::{bits_of, literal};
 use ir_core::code::{Block, BuiltIn, Inst, Op, Operand};
 use ir_core::program::Function;
 use ir_core::types::{MemTy, Ty};
 use ir_core::units::values_of;
 use ir_verify::checked::Checked;
+use quick_pieces::moves::moves_bytes;
+use quick_pieces::parts::{bits_of, literal};
 
 fn is_width(ty: Ty) -> bool
     ensures { result ≡ is_width_type ty }

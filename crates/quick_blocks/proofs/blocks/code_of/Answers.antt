@@ -3,7 +3,7 @@ use Rattle.fast_isel.specs.Code.{prologue}
 use Rattle.fast_isel.specs.Data.{takes_data, save_code}
 use Rattle.fast_isel.specs.Blocks.{block_label, label_count, arguments_code}
 use Rattle.fast_isel.specs.Assembly.{labelled}
-use Rattle.quick_blocks.specs.Written.{put_code}
+use Rattle.quick_pieces.specs.Written.{put_code}
 use Rattle.quick_blocks.proofs.Joins.{function_put, function_free}
 use Rattle.quick_blocks.proofs.blocks.code_of.Goals as goal
 

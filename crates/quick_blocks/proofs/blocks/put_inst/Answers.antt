@@ -11,8 +11,8 @@ use Rattle.ir_meaning.specs.Step.{moves_bytes}
 use Rattle.fast_isel.specs.Data.{takes_data, moved_code}
 use Rattle.fast_isel.specs.Forms.{IsJump}
 use Rattle.fast_isel.specs.Assembly.{put}
-use Rattle.quick_blocks.specs.Written.{put_code}
-use Rattle.quick_blocks.proofs.Put.{code_is}
+use Rattle.quick_pieces.specs.Written.{put_code}
+use Rattle.quick_pieces.proofs.Put.{code_is}
 use Rattle.quick_blocks.proofs.Counts.{label_below}
 use Rattle.quick_blocks.proofs.blocks.put_inst.Goals as goal
 

@@ -1,5 +1,5 @@
 use Rattle.std.proofs.Common.{refl}
-use Rattle.quick_blocks.proofs.Put.{labelled_more}
+use Rattle.quick_pieces.proofs.Put.{labelled_more}
 use Rattle.quick_blocks.proofs.blocks.with_labels.Goals as goal
 
 pub loop-label-preserved : goal.loop-label-preserved

@@ -1,5 +1,5 @@
 use Rattle.std.proofs.Common.{◌∙◌}
-use Rattle.quick_blocks.proofs.Put.{bound_put}
+use Rattle.quick_pieces.proofs.Put.{bound_put}
 use Rattle.quick_blocks.proofs.jumps.put_label.Goals as goal
 
 pub returns : goal.returns

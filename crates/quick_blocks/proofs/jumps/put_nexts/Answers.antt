@@ -1,7 +1,7 @@
 use Rattle.std.proofs.Common.{ap, ◌∙◌, arith, length}
 use Rattle.ir_meaning.specs.Step.{number_at, on_edge}
 use Rattle.fast_isel.specs.Blocks.{next_code}
-use Rattle.quick_blocks.specs.Written.{put_code}
+use Rattle.quick_pieces.specs.Written.{put_code}
 use Rattle.quick_blocks.specs.Taken.{are_edge_operands}
 use Rattle.quick_blocks.proofs.Counts.{number-most}
 use Rattle.quick_blocks.proofs.Joins.{stands_at, phi_form, phi_number, phi_none, none_left, next_more, nexts_done}

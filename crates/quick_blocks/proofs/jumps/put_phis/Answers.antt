@@ -3,7 +3,7 @@ use Rattle.rv_core.specs.declared.reg.Reg.TheVariants.{T0}
 use Rattle.ir_meaning.specs.Step.{number_at}
 use Rattle.fast_isel.specs.Code.{store_value}
 use Rattle.fast_isel.specs.Blocks.{load_next}
-use Rattle.quick_blocks.specs.Written.{put_code}
+use Rattle.quick_pieces.specs.Written.{put_code}
 use Rattle.quick_blocks.proofs.Counts.{number-most}
 use Rattle.quick_blocks.proofs.Joins.{stands_at, phi_form, phi_first, phi_number, phi_none, none_left, phis_more, phis_done}
 use Rattle.quick_blocks.proofs.jumps.put_phis.Goals as goal

@@ -2,7 +2,7 @@ use Rattle.std.proofs.Common.{◌≡◌, ◌+◌, drop, true, length}
 use Rattle.ir_meaning.specs.Step.{insts_at, number_at, phis}
 use Rattle.fast_isel.specs.Blocks.{phis_code}
 use Rattle.quick_blocks.specs.Taken.{are_forms}
-use Rattle.quick_blocks.specs.Written.{put_code}
+use Rattle.quick_pieces.specs.Written.{put_code}
 use Rattle.quick_blocks.proofs.jumps.put_phis.Given as goal
 
 abbrev pub invariant-loop-inst : goal.invariant-loop-inst

@@ -3,7 +3,7 @@ use Rattle.ir_core.specs.declared.types.Ty.TheVariants.{Void}
 use Rattle.ir_core.specs.declared.types.MemTy.{MemTy}
 use Rattle.ir_core.specs.declared.types.MemTy.TheVariants.{Array, Struct}
 use Rattle.ir_core.specs.declared.code.Operand.TheVariants.{Value as Local}
-use Rattle.quick_blocks.proofs.Adding.{array_answer, struct_answer, struct_past}
+use Rattle.quick_pieces.proofs.Adding.{array_answer, struct_answer, struct_past}
 use Rattle.quick_blocks.proofs.taken.+are_steps.Goals as goal
 
 pub returns-then-is_number : goal.returns-then-is_number

@@ -1,5 +1,5 @@
 use Rattle.std.proofs.Common.{◌≡◌, drop}
-use Rattle.quick_blocks.specs.Taken.{are_arguments}
+use Rattle.quick_pieces.specs.Operands.{are_arguments}
 use Rattle.quick_blocks.proofs.taken.are_arguments.Given as goal
 
 abbrev pub invariant-loop-operand : goal.invariant-loop-operand

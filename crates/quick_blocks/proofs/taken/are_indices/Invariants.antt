@@ -1,5 +1,5 @@
 use Rattle.std.proofs.Common.{◌≡◌, drop}
-use Rattle.quick_blocks.specs.Taken.{are_indices}
+use Rattle.quick_pieces.specs.Operands.{are_indices}
 use Rattle.quick_blocks.proofs.taken.are_indices.Given as goal
 
 abbrev pub invariant-loop-index : goal.invariant-loop-index

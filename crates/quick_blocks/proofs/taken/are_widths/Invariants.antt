@@ -1,5 +1,5 @@
 use Rattle.std.proofs.Common.{◌≡◌, drop}
-use Rattle.quick_blocks.specs.Taken.{are_widths}
+use Rattle.quick_pieces.specs.Operands.{are_widths}
 use Rattle.quick_blocks.proofs.taken.are_widths.Given as goal
 
 abbrev pub invariant-loop-ty : goal.invariant-loop-ty
