@@ -1,0 +1,2 @@
+pub mod OneCode
+pub mod Pushing
