@@ -3,13 +3,13 @@ use Rattle.std.specs.Prelude.{ℕ, zero, suc, ◌+◌, ◌%◌, List, [], ◌++�
 
 -- @f0 returns its argument
 abbrev pub first_text : List ℕ
-first_text = codes "define i64 @f0(i64 %x) {\n  ret i64 %x\n}\n"
+first_text = codes "define i64 @f0(i64 %v0) {\nb0:\n  ret i64 %v0\n}\n"
 
 abbrev pub head_text : ℕ → List ℕ
-head_text number = codes "define i64 @f" ++ decimal number ++ codes "(i64 %x) {\n"
+head_text number = codes "define i64 @f" ++ decimal number ++ codes "(i64 %v0) {\nb0:\n"
 
 abbrev pub body_text : ℕ → List ℕ
-body_text callee = codes "  %y = call i64 @f" ++ decimal callee ++ codes "(i64 %x)\n  %z = add i64 %y, %x\n  ret i64 %z\n}\n"
+body_text callee = codes "  %v1 = call i64 @f" ++ decimal callee ++ codes "(i64 %v0)\n  %v2 = add i64 %v1, %v0\n  ret i64 %v2\n}\n"
 
 -- the function behind @f(place) adds its argument to what that one returns
 abbrev pub next_text : ℕ → List ℕ

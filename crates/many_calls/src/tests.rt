@@ -5,10 +5,10 @@ use ir_meaning::calls::Ended;
 fn module_and_calls(rt: HostRuntime) {
     let (module, calls) = generate(rt.alloc(), 66).expect(&rt, "memory");
     let begin =
-        "define i64 @f0(i64 %x) {\n  ret i64 %x\n}\ndefine i64 @f1(i64 %x) {\n  %y = call i64 @f0(i64 %x)\n  %z = add i64 %y, %x\n  ret i64 %z\n}\n";
+        "define i64 @f0(i64 %v0) {\nb0:\n  ret i64 %v0\n}\ndefine i64 @f1(i64 %v0) {\nb0:\n  %v1 = call i64 @f0(i64 %v0)\n  %v2 = add i64 %v1, %v0\n  ret i64 %v2\n}\n";
     assert!(rt; module.as_slice().starts_with(begin.as_bytes()));
     let end =
-        "define i64 @f63(i64 %x) {\n  %y = call i64 @f62(i64 %x)\n  %z = add i64 %y, %x\n  ret i64 %z\n}\n";
+        "define i64 @f63(i64 %v0) {\nb0:\n  %v1 = call i64 @f62(i64 %v0)\n  %v2 = add i64 %v1, %v0\n  ret i64 %v2\n}\n";
     assert!(rt; module.as_slice().ends_with(end.as_bytes()));
     assert!(rt; calls.as_slice().starts_with(b"@f0(i64 0)\n@f1(i64 1)\n"));
     assert!(rt;

@@ -7,7 +7,7 @@ use std::alloc::Global;
 
 /// Adds a number between two texts.
 fn push_between(page: &mut Page, before: &[u8], number: u32, after: &[u8]) -> Result<(), NoMemory>
-    ensures { OnOk result (page.new ≡ page.old ++ before.now ++ decimal number ++ after.now) }
+    ensures { OnOk result (page.new ≡ page.old ++ (before.now ++ decimal number ++ after.now)) }
 {
     page.write(before)?;
     page.number(u128::from(number))?;
@@ -18,15 +18,15 @@ fn push_between(page: &mut Page, before: &[u8], number: u32, after: &[u8]) -> Re
 fn push_head(page: &mut Page, number: u32) -> Result<(), NoMemory>
     ensures { OnOk result (page.new ≡ page.old ++ head_text number) }
 {
-    push_between(page, b"define i64 @f", number, b"(i64 %x) {\n")
+    push_between(page, b"define i64 @f", number, b"(i64 %v0) {\nb0:\n")
 }
 
 /// Adds the lines of a function that calls the one of this number, and its end.
 fn push_body(page: &mut Page, callee: u32) -> Result<(), NoMemory>
     ensures { OnOk result (page.new ≡ page.old ++ body_text callee) }
 {
-    let after = b"(i64 %x)\n  %z = add i64 %y, %x\n  ret i64 %z\n}\n";
-    push_between(page, b"  %y = call i64 @f", callee, after)
+    let after = b"(i64 %v0)\n  %v2 = add i64 %v1, %v0\n  ret i64 %v2\n}\n";
+    push_between(page, b"  %v1 = call i64 @f", callee, after)
 }
 
 /// Adds a function that calls the one before it.
@@ -53,7 +53,7 @@ fn module_text(alloc: Global) -> Result<Vec<u8>, NoMemory>
     ensures { IfOk result (λ text. text.items ≡ module_text) }
 {
     let mut page = Page::new(alloc);
-    page.write(b"define i64 @f0(i64 %x) {\n  ret i64 %x\n}\n")?;
+    page.write(b"define i64 @f0(i64 %v0) {\nb0:\n  ret i64 %v0\n}\n")?;
     for place in 0..63u32 {
         push_next(&mut page, place)?;
     }
