@@ -4,3 +4,6 @@ pub mod Each
 pub mod Ended
 pub mod Gathering
 pub mod Starting
+pub mod Entering
+pub mod Serving
+pub mod Parting

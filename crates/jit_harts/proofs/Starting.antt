@@ -5,7 +5,8 @@ use Rattle.std.proofs.lemmas.Bool.{cases_lt}
 use Rattle.code_epochs.specs.Sound.{At}
 use Rattle.redirect_cells.specs.declared.table.CodeTable.{CodeTable}
 use Rattle.redirect_cells.specs.declared.hart_seat.HartSeat.{HartSeat}
-use Rattle.redirect_cells.specs.Kept.{word_in}
+use Rattle.redirect_cells.specs.Kept.{part_in, part_of, word_in}
+use Rattle.redirect_cells.specs.declared.view.Role.{Role}
 use Rattle.redirect_cells.specs.Opened.{AreNewSeats}
 use Rattle.std.specs.Prelude.{vec_capacity}
 use Rattle.ir_core.specs.Program.{Program}
@@ -24,11 +25,11 @@ at_between (y ∷ xs) rest x = at_between xs rest x
 
 -- the next seat of a table's new ones
 pub next_seat : (table : CodeTable) (seats before rest : List HartSeat) (s : HartSeat) → AreNewSeats table (length seats) seats → before ++ s ∷ rest ≡ seats
-    → (s.table.now ≡ table) × (s.number ≡ length before) × (word_in s.seat.me.0.role ≡ 0)
+    → (s.table.now ≡ table) × (s.number ≡ length before) × (word_in s.seat.me.0.role ≡ 0) × ((part_of s.seat.me.0).ended ≡ [])
 next_seat table seats before rest s all order =
     let at : At seats (length before) s = subst (λ (l : List HartSeat). At l (length before) s) order (at_between before rest s) in
     let is = all.1 (length before) s at in
-    (is.0, is.1, ap word_in is.2)
+    (is.0, is.1, ap word_in is.2, ap (λ (r : Role). (part_in r).ended) is.2)
 
 pub nothing_left : {X : Type 0} (l : List X) → length l ≡ 0 → l ≡ []
 nothing_left [] h = refl
@@ -42,6 +43,7 @@ is_new program t u a b harts calls n m r w table counts number = record {
   table = w.table ∙ table;
   seat = w.seat ∙ number;
   idle = w.idle;
+  fresh = w.fresh;
   counts = (w.counts.0 ∙ counts, w.counts.1, w.counts.2, w.counts.3);
   none = w.none;
   room = w.room;

@@ -9,6 +9,8 @@ use Rattle.redirect_cells.specs.declared.hart_seat.HartSeat.{HartSeat}
 use Rattle.jit_harts.specs.Calls.{IsCallOf, AreCallsOf}
 use Rattle.jit_harts.specs.declared.runner.Runner.{Runner}
 use Rattle.jit_harts.specs.Runs.{IsImage, IsReady, IsSameSeat, IsSameCounts, HasAnswered, place_of}
+use Rattle.jit_harts.specs.Entries.{calls_of, HasEntered}
+use Rattle.jit_harts.specs.Served.{HasServed}
 
 -- the work of a session of so many harts: a list of calls of a well typed program, from its image
 pub record IsWork (program : Program) (first : Image) (list : List ListedCall) (count : ℕ) : Type 0 where
@@ -39,3 +41,5 @@ pub record HasRun {G : Type 0} (program : Program) (calls : List ListedCall) (ha
   pub counts : IsSameCounts before.bench.counts after.bench.counts
   pub number : after.number ≡ before.number
   pub entries : after.entries ≡ before.entries
+  pub served : HasServed program calls harts before.number before.bench.seat after.bench.seat before.bench.counts after.bench.counts after.answers.items
+  pub entered : HasEntered program (calls_of calls harts before.number) before.bench.counts after.bench.counts

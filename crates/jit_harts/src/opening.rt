@@ -1,7 +1,7 @@
 //! What a session takes before its first call.
-ghost use Rattle.std.specs.Prelude.{◌≡◌, ◌+◌, ◌≤◌, length, All, sum_by, IfOk};
+ghost use Rattle.std.specs.Prelude.{◌≡◌, ◌+◌, ◌≤◌, [], length, All, sum_by, IfOk};
 ghost use Rattle.entry_counts.specs.Seats.{IsNewSeat, parts_of as parts_of_counts};
-ghost use Rattle.redirect_cells.specs.Kept.{word_in};
+ghost use Rattle.redirect_cells.specs.Kept.{part_of, word_in};
 ghost use Rattle.redirect_cells.specs.Opened.{AreNewSeats};
 ghost use Rattle.jit_harts.specs.Opened.{IsNew, parts_of};
 ghost use Rattle.jit_harts.specs.Runs.{Each};
@@ -28,6 +28,7 @@ fn new_runner<'a, G>(
     requires harts { 1 ≤ harts }
     requires calls { calls ≤ 65536 }
     requires idle { word_in seat.seat.me.0.role ≡ 0 }
+    requires fresh { (part_of seat.seat.me.0).ended ≡ [] }
     requires counts { IsNewSeat counts.counts.now counts }
     requires symbols { counts.counts.now.symbols ≡ seat.table.now.functions }
     ensures new { IfOk result (IsNew checked.now seat.entry.table.now counts.entry.counts.now harts calls seat.entry.number) }

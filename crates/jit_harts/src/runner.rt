@@ -3,6 +3,7 @@ ghost use Rattle.std.specs.Prelude.{◌≡◌, ◌<◌, ℕ, length, slice_index
 ghost use Rattle.ir_core.specs.Program.{Program};
 ghost use Rattle.ir_meaning.specs.Right.{Right};
 ghost use Rattle.jit_harts.specs.Runs.{IsReady, IsSameSeat, IsSameCounts};
+ghost use Rattle.jit_harts.specs.Served.{HasServedOne};
 ghost use Rattle.jit_harts.specs.Runners.{IsWork, MayAnswer, CanRun, HasRun};
 
 use hart::{Hart, Image};
@@ -36,6 +37,7 @@ fn answer<G: Gate>(
     ensures right { (program : Program) → MayAnswer program image.now call.now hart.old bench.old.seat → IsReady program hart.new bench.new.seat × Right program call.now result }
     ensures seat { IsSameSeat bench.old.seat bench.new.seat }
     ensures counts { IsSameCounts bench.old.counts bench.new.counts }
+    ensures served { (program : Program) → MayAnswer program image.now call.now hart.old bench.old.seat → HasServedOne program call.now bench.old.seat bench.new.seat bench.old.counts bench.new.counts result }
 {
     hart.run_call(bench, image, call)
 }

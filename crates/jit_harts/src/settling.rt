@@ -4,7 +4,7 @@ ghost use Rattle.ir_core.specs.Program.{Program};
 ghost use Rattle.entry_counts.specs.Tally.{times};
 ghost use Rattle.jit_harts.specs.Runs.{AllRight, Each, HasAnswered, place_of};
 ghost use Rattle.jit_harts.specs.Opened.{parts_of};
-ghost use Rattle.jit_harts.specs.Settling.{IsRow, CanPart, column, seats_of};
+ghost use Rattle.jit_harts.specs.Settling.{IsRow, AreRows, CanPart, column, seats_of};
 
 use crate::runner::Runner;
 use entry_counts::CountSeat;
@@ -55,6 +55,7 @@ pub fn part<'a, G>(
     ensures seats { seats.new.items ≡ seats_of runners.entry.items }
     ensures count { length by_hart.new.items ≡ length runners.entry.items }
     ensures rows { All (λ row. length row ≡ symbols) by_hart.new.items }
+    ensures own { AreRows symbols runners.entry.items by_hart.new.items }
     ensures joined { (k : ℕ) → k < symbols → times k all.new.seat.me.0.joined ≡ column k by_hart.new.items }
     ensures parts { all.new.seat.me.0.parts ≡ all.old.seat.me.0.parts + sum_by parts_of runners.entry.items }
     ensures same { (all.new.counts ≡ all.old.counts) × (all.new.seat.me.0.own ≡ all.old.seat.me.0.own) }

@@ -18,6 +18,7 @@ returns-clause-new g c =
       table = ap (λ s. s.table.now) seat;
       seat = ap (λ s. s.number) seat;
       idle = rw seat c.requires.idle;
+      fresh = rw seat c.requires.fresh;
       counts = rw counts c.requires.counts;
       none = none;
       room = λ i low. (let most = enough c.args.harts c.number-number.result c.args.calls i c.requires.harts low in omega arith);

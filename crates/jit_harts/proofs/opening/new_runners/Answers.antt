@@ -17,6 +17,14 @@ new_runner-requires-clause-idle g c =
     let all : at.yielded ++ x ∷ into_iter_items c.next.new.self ≡ c.args.seats.items = rw steps at at.invariant.order ∙ c.into_iter-seat-iterator.ensures.into_iter_gives.0 in
     (next_seat c.args.table.now c.args.seats.items at.yielded (into_iter_items c.next.new.self) x c.requires.seats all).2
 
+pub new_runner-requires-clause-fresh : goal.new_runner-requires-clause-fresh
+new_runner-requires-clause-fresh g c =
+    let at = c.loop-seat in
+    let x = c.in-Some.seat in
+    let steps : into_iter_items at.seat-iterator ≡ x ∷ into_iter_items c.next.new.self = c.in-Some.ensures.steps.0 in
+    let all : at.yielded ++ x ∷ into_iter_items c.next.new.self ≡ c.args.seats.items = rw steps at at.invariant.order ∙ c.into_iter-seat-iterator.ensures.into_iter_gives.0 in
+    (next_seat c.args.table.now c.args.seats.items at.yielded (into_iter_items c.next.new.self) x c.requires.seats all).3
+
 pub new_runner-requires-clause-counts : goal.new_runner-requires-clause-counts
 new_runner-requires-clause-counts g c =
     let is = (All-pop (counts.IsNewSeat c.args.tally.now) c.loop-seat.left.items c.pop.new.self.items (Some c.in-Some-pop.counts) c.in-Some-pop.ensures.items c.loop-seat.invariant.spare).1 in

@@ -1,6 +1,7 @@
 use Rattle.std.proofs.Common.{arith, ap, ◌∙◌}
 use Rattle.jit_bench.proofs.Seats.{has_not_begun, idle_of}
 use Rattle.jit_harts.proofs.Readying.{symbols_known, is_call, room_for, still_known, right}
+use Rattle.jit_harts.proofs.Serving.{served_one}
 use Rattle.jit_harts.proofs.runner.answer.Goals as goal
 
 pub run_call-requires-clause-image : goal.run_call-requires-clause-image
@@ -43,3 +44,11 @@ returns-clause-seat g c = let s = c.run_call.ensures.answers.fabric_stands in re
 
 pub returns-clause-counts : goal.returns-clause-counts
 returns-clause-counts g c = let h = c.run_call.ensures.answers.fabric_stands.count in record { table = h.table; parts = h.parts; joined = h.joined }
+
+pub returns-clause-served : goal.returns-clause-served
+returns-clause-served g c = λ program may.
+    let a = c.run_call.ensures.answers in
+    let b = c.args.bench.now in
+    let b' = c.run_call.new.fabric in
+    served_one program c.args.call.now c.args.image.now c.args.hart.now c.run_call.new.self b.seat b'.seat b.counts b'.counts a.pass a.counted c.run_call.result
+    may.typed may.ready may.image may.listed a.fabric_stands c.run_call.ensures.idle a.ended c.run_call.ensures.in_range

@@ -8,8 +8,9 @@ use Rattle.entry_counts.specs.declared.view.Tally.{Tally}
 use Rattle.redirect_cells.specs.declared.hart_seat.HartSeat.{HartSeat}
 use Rattle.redirect_cells.proofs.Seated as S
 use Rattle.jit_harts.specs.Opened.{parts_of}
-use Rattle.jit_harts.specs.Settling.{IsRow, CanPart, column, seats_of}
+use Rattle.jit_harts.specs.Settling.{IsRow, AreRows, CanPart, column, seats_of}
 use Rattle.jit_harts.proofs.Gathering.{seats_push, seats_long, counted_more}
+use Rattle.jit_harts.proofs.Parting.{rows_push}
 use Rattle.jit_harts.proofs.settling.part.Goals as goal
 
 pub push_reserved-requires-in-loop-runner : goal.push_reserved-requires-in-loop-runner
@@ -52,6 +53,7 @@ loop-runner-preserved g c =
       seats = c.push_reserved-in-loop-runner.ensures.items ∙ ap (λ (l : List HartSeat). l ++ c.parts-seat.result.0 ∷ []) inv.seats ∙ ap (λ (s : HartSeat). seats_of at.yielded ++ s ∷ []) seat ∙ sym (seats_push at.yielded x);
       count = (let was = inv.count in let y = length-append at.yielded (x ∷ []) in omega (arith, more, y, was));
       rows = subst (λ (l : List (List ℕ)). All (λ (r : List ℕ). length r ≡ c.args.symbols) l) (sym rows) (All-push (λ (r : List ℕ). length r ≡ c.args.symbols) at.by_hart.items row inv.rows is.0);
+      each_row = subst (AreRows c.args.symbols (at.yielded ++ x ∷ [])) (sym rows) (rows_push c.args.symbols at.yielded at.by_hart.items x row inv.each_row is);
       joined = λ k low. ap (times k) both ∙ counted_more k c.args.symbols x.bench.counts me.joined at.by_hart.items row low is can.joined (inv.joined k low) ∙ ap (column k) (sym rows);
       parts = (let was = inv.parts in
           let a = ap (λ (v : Tally). v.parts) joined ∙ ap (λ (s : CountSeat). me.parts + s.seat.me.0.parts) counts in

@@ -3,7 +3,7 @@ use Rattle.std.specs.Prelude.{vec_capacity}
 use Rattle.std.specs.Vec.Iter.{into_iter_items, into_iter_len}
 use Rattle.entry_counts.specs.Tally.{times}
 use Rattle.jit_harts.specs.Opened.{parts_of}
-use Rattle.jit_harts.specs.Settling.{column, seats_of}
+use Rattle.jit_harts.specs.Settling.{AreRows, column, seats_of}
 use Rattle.jit_harts.proofs.settling.part.Given as goal
 
 abbrev pub invariant-loop-runner : goal.invariant-loop-runner
@@ -13,6 +13,7 @@ invariant-loop-runner g l = record {
   seats : l.seats.items ≡ seats_of l.yielded;
   count : length l.by_hart.items ≡ length l.yielded;
   rows : All (λ row. length row ≡ l.symbols) l.by_hart.items;
+  each_row : AreRows l.symbols l.yielded l.by_hart.items;
   joined : (k : ℕ) → k < l.symbols → times k l.all.seat.me.0.joined ≡ column k l.by_hart.items;
   parts : l.all.seat.me.0.parts ≡ l.fn.all.seat.me.0.parts + sum_by parts_of l.yielded;
   counts : l.all.counts ≡ l.fn.all.counts;

@@ -3,13 +3,14 @@ use Rattle.std.specs.Prelude.{vec_capacity}
 use Rattle.ir_core.specs.Program.{Program}
 use Rattle.jit_harts.specs.Runners.{IsWork, CanRun}
 use Rattle.jit_harts.specs.Runs.{IsReady, IsSameSeat, IsSameCounts, place_of}
+use Rattle.jit_harts.specs.Served.{HasServed}
 use Rattle.jit_harts.proofs.Answering.{AreRight}
 use Rattle.jit_harts.proofs.runner.Runner.run.Given as goal
 
 abbrev pub invariant-loop-place : goal.invariant-loop-place
 invariant-loop-place g l = record {
   place : l.place ≡ place_of l.harts l.fn.self.number (length l.self.answers.items);
-  each : (program : Program) → IsWork program l.image l.calls l.harts → CanRun program l.calls l.harts l.fn.self → AreRight program l.calls l.harts l.fn.self.number l.self.answers.items × IsReady program l.self.hart l.self.bench.seat;
+  each : (program : Program) → IsWork program l.image l.calls l.harts → CanRun program l.calls l.harts l.fn.self → AreRight program l.calls l.harts l.fn.self.number l.self.answers.items × IsReady program l.self.hart l.self.bench.seat × HasServed program l.calls l.harts l.fn.self.number l.fn.self.bench.seat l.self.bench.seat l.fn.self.bench.counts l.self.bench.counts l.self.answers.items;
   seat : IsSameSeat l.fn.self.bench.seat l.self.bench.seat;
   counts : IsSameCounts l.fn.self.bench.counts l.self.bench.counts;
   number : l.self.number ≡ l.fn.self.number;
