@@ -8,4 +8,4 @@ pub record IsReserve (harts calls symbols : ℕ) (r : Reserve) : Type 0 where
   pub answers : (r.answers.items ≡ []) × (calls ≤ vec_capacity r.answers)
   pub by_hart : (r.by_hart.items ≡ []) × (harts ≤ vec_capacity r.by_hart)
   pub rows : (r.rows.items ≡ []) × (symbols ≤ vec_capacity r.rows)
-  pub refused : r.refused ≡ []
+  pub refused : (r.refused.items ≡ []) × (symbols ≤ vec_capacity r.refused)

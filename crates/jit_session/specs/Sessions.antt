@@ -1,5 +1,5 @@
 -- What a session comes to.
-use Rattle.std.specs.Prelude.{◌≡◌, ℕ, ◌-◌, ◌^◌, ◌<◌, min, List, [], length, All}
+use Rattle.std.specs.Prelude.{◌≡◌, ◌⊎◌, ℕ, ◌-◌, ◌^◌, ◌<◌, min, List, length, All, Bool}
 use Rattle.ir_core.specs.Program.{Program}
 use Rattle.ir_meaning.specs.Meaning.{meaning}
 use Rattle.ir_meaning.specs.declared.calls.ListedCall.{ListedCall}
@@ -10,53 +10,43 @@ use Rattle.code_epochs.specs.declared.refusals.OpenRefusal.{OpenRefusal}
 use Rattle.code_epochs.specs.declared.refusals.OpenRefusal.TheVariants.{NoRoom, NoMemory}
 use Rattle.code_epochs.specs.declared.state.VersionState.{VersionState}
 use Rattle.version_shelf.specs.declared.shelf.Shelf.{Shelf}
-use Rattle.redirect_cells.specs.Keeping.{IsCurrent, held_words}
+use Rattle.redirect_cells.specs.Keeping.{IsCurrent, NonePending, NoneUnlinked, held_words}
 use Rattle.redirect_cells.specs.Opened.{words_of}
 use Rattle.jit_calls.specs.declared.settled.Settled.{Settled}
 use Rattle.jit_calls.specs.declared.settled.SymbolRow.{SymbolRow}
 use Rattle.jit_harts.specs.Runs.{AllRight, Each}
 use Rattle.jit_harts.specs.Settling.{column}
+use Rattle.reopt_policy.specs.Marks.{level_for}
+use Rattle.jit_session.specs.Levels.{IsAmong, AreRefused}
 
 -- a good version of each function of the program, in order
 pub record AreFirst (program : Program) (versions : List Version) : Type 0 where
   pub count : length versions ≡ length program.module_.functions
   pub good : (k : ℕ) (v : Version) → At versions k v → (v.symbol ≡ k) × Good (meaning program) k v.words
 
--- the row of a symbol that kept its first version
-pub record IsFirstRow (versions : List Version) (rows : List (List ℕ)) (k : ℕ) (row : SymbolRow) : Type 0 where
-  pub version : Version
-  pub first : At versions k version
-  pub level : row.level ≡ version.level
-  pub words : row.words ≡ length version.words
-  pub entries : row.entries ≡ column k rows
-
--- Each call has its right answer; each hart has its row of counts, with a number for each function; each function has its row, and keeps
--- its first version; nothing was refused, and the words in use are those of the first versions, a header for each with them.
-pub record IsSettled (program : Program) (calls : List ListedCall) (count : ℕ) (versions : List Version) (s : Settled) : Type 0 where
-  pub answers : AllRight program calls s.answers
-  pub harts : length s.by_hart ≡ count
-  pub by_hart : All (λ (row : List ℕ). length row ≡ length program.module_.functions) s.by_hart
-  pub symbols : length s.rows ≡ length program.module_.functions
-  pub rows : Each (IsFirstRow versions s.by_hart) s.rows
-  pub refused : s.refused ≡ []
-  pub used : s.used ≡ words_of versions
-
 -- the row of a symbol by its linked version
-pub record IsLinkedRow (shelf : Shelf) (rows : List (List ℕ)) (k : ℕ) (row : SymbolRow) : Type 0 where
+pub record IsLinkedRow (shelf : Shelf) (k : ℕ) (row : SymbolRow) : Type 0 where
   pub version : VersionState
   pub current : IsCurrent shelf k version
   pub level : row.level ≡ version.level
   pub words : row.words ≡ version.words
-  pub entries : row.entries ≡ column k rows
 
--- the same of a session whose keeper had these versions, none of them pending, and published no other
-pub record IsSettledOver (program : Program) (calls : List ListedCall) (count functions : ℕ) (shelf : Shelf) (s : Settled) : Type 0 where
+-- Each call has its right answer; each hart has its row of counts, with a number for each function. Each function has its row: its
+-- entries are the sum of what the harts counted, its level is the one that the marks give for them or the job of giving it this level was
+-- refused, and level and words are those of its linked version. A job was refused as crowded only where `test` allows it. The words in
+-- use are those of the versions that aren't given up, none of which is unlinked or pending, a header for each with them.
+pub record IsSettled (program : Program) (calls : List ListedCall) (count functions : ℕ) (marks : List ℕ) (test : ℕ → ℕ → Bool) (s : Settled) : Type 0 where
   pub answers : AllRight program calls s.answers
   pub harts : length s.by_hart ≡ count
   pub by_hart : All (λ (row : List ℕ). length row ≡ functions) s.by_hart
   pub symbols : length s.rows ≡ functions
-  pub rows : Each (IsLinkedRow shelf s.by_hart) s.rows
-  pub refused : s.refused ≡ []
+  pub entries : Each (λ k row. row.entries ≡ column k s.by_hart) s.rows
+  pub levels : Each (λ k row. (row.level ≡ level_for marks row.entries) ⊎ IsAmong s.refused k (level_for marks row.entries)) s.rows
+  pub refused : AreRefused test functions s.refused
+  pub shelf : Shelf
+  pub linked : Each (IsLinkedRow shelf) s.rows
+  pub none_pending : NonePending shelf.versions.items
+  pub none_unlinked : NoneUnlinked shelf.versions.items
   pub used : s.used ≡ held_words shelf.versions.items
 
 -- why there is no session

@@ -4,5 +4,7 @@
 mod reserve;
 mod rows;
 mod session;
+mod settling;
 
 pub use session::{Setup, run};
+pub use settling::settle_one;

@@ -16,11 +16,11 @@ pub struct Reserve<'a> {
     pub(crate) answers: Vec<Ended>,
     pub(crate) by_hart: Vec<Items<u64>>,
     pub(crate) rows: Vec<SymbolRow>,
-    pub(crate) refused: Items<RefusedJob>,
+    pub(crate) refused: Vec<RefusedJob>,
 }
 
-// An empty list with room for so many.
-fn with_room<T>(alloc: Global, count: usize) -> Result<Vec<T>, NoMemory>
+/// An empty list with room for so many.
+pub fn with_room<T>(alloc: Global, count: usize) -> Result<Vec<T>, NoMemory>
     ensures { IfOk result (λ v. (v.items ≡ []) × (count ≤ vec_capacity v)) }
 {
     Vec::with_capacity(alloc, count).map_err(|_| NoMemory)
@@ -40,6 +40,6 @@ pub fn make_reserve<'a>(
         answers: with_room(alloc, calls)?,
         by_hart: with_room(alloc, harts)?,
         rows: with_room(alloc, symbols)?,
-        refused: Items::new(alloc),
+        refused: with_room(alloc, symbols)?,
     })
 }
