@@ -1,3 +1,4 @@
 pub mod Shapes
 pub mod Rules
 pub mod Commands
+pub mod Ranges

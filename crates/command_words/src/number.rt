@@ -44,7 +44,8 @@ pub fn number_within(text: &str, least: u64, most: u64) -> Option<u64>
 
 /// The same below 2^32.
 pub fn small_within(text: &str, least: u32, most: u32) -> Option<u32>
-    ensures { result ≡ number_within least most text.now }
+    ensures number { result ≡ number_within least most text.now }
+    ensures bounds { IfSome result (λ n. (least ≤ n) × (n ≤ most)) }
 {
     let number = number_within(text, u64::from(least), u64::from(most))?;
     u32::try_from(number).ok()
@@ -52,7 +53,8 @@ pub fn small_within(text: &str, least: u32, most: u32) -> Option<u32>
 
 /// The number of an option's text, or the usual one where there is none.
 pub fn number_or(text: Option<&str>, usual: u64, least: u64, most: u64) -> Option<u64>
-    ensures { result ≡ number_or usual least most (option_map (λ t. t.now) text.entry) }
+    ensures number { result ≡ number_or usual least most (option_map (λ t. t.now) text.entry) }
+    ensures bounds { least ≤ usual → usual ≤ most → IfSome result (λ n. (least ≤ n) × (n ≤ most)) }
 {
     match text {
         Some(text) => number_within(text, least, most),
@@ -62,7 +64,8 @@ pub fn number_or(text: Option<&str>, usual: u64, least: u64, most: u64) -> Optio
 
 /// The same below 2^32.
 pub fn small_or(text: Option<&str>, usual: u32, least: u32, most: u32) -> Option<u32>
-    ensures { result ≡ number_or usual least most (option_map (λ t. t.now) text.entry) }
+    ensures number { result ≡ number_or usual least most (option_map (λ t. t.now) text.entry) }
+    ensures bounds { least ≤ usual → usual ≤ most → IfSome result (λ n. (least ≤ n) × (n ≤ most)) }
 {
     match text {
         Some(text) => small_within(text, least, most),

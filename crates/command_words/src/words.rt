@@ -1,9 +1,10 @@
-ghost use Rattle.std.specs.Prelude.{◌≡◌, List, ℕ, None, IfOk, MatchOption, option_map, codes};
+ghost use Rattle.std.specs.Prelude.{◌≡◌, List, ℕ, None, IfOk, IfSome, MatchOption, option_map, codes};
 ghost use Rattle.clap.specs.Simple.{app_of};
 ghost use Rattle.clap.specs.Words.{first_value, found_of};
 ghost use Rattle.command_words.specs.Shapes.{Form, shape_of, is_true};
 ghost use Rattle.command_words.specs.Rules.{IsServed, Matches, app_in};
 ghost use Rattle.command_words.specs.Commands.{words_of, line_of, line_in, command_of, run_form, big_form, eval_form, sim_form, dump_form};
+ghost use Rattle.command_words.specs.Ranges.{IsRoom, IsBetween, AreRunOptions, AreSimOptions, IsInRange};
 ghost use Rattle.command_words.specs.Commands.{run_line, big_line, eval_line, sim_line, dump_line, run_options, sim_options, room_of, level_of};
 
 use crate::arguments::{
@@ -46,14 +47,16 @@ fn is_on(text: Option<&str>) -> bool
 
 /// The bytes of data memory.
 fn room(matches: &ArgMatches) -> Option<u64>
-    ensures { result ≡ room_of (first_value (found_of matches.now) (codes "room")) }
+    ensures room { result ≡ room_of (first_value (found_of matches.now) (codes "room")) }
+    ensures in_range { IfSome result IsRoom }
 {
     let room = number_or(matches.get_str("room"), 1_048_576, 4_096, 67_108_864)?;
     if room % 16 == 0 { Some(room) } else { None }
 }
 
 fn run_options(matches: &ArgMatches) -> Option<RunOptions>
-    ensures { result ≡ run_options (first_value (found_of matches.now)) }
+    ensures options { result ≡ run_options (first_value (found_of matches.now)) }
+    ensures in_range { IfSome result AreRunOptions }
 {
     let harts = small_or(matches.get_str("harts"), 1, 1, 16)?;
     let workers = small_or(matches.get_str("workers"), 1, 0, 8)?;
@@ -70,7 +73,8 @@ fn run_options(matches: &ArgMatches) -> Option<RunOptions>
 }
 
 fn sim_options(matches: &ArgMatches) -> Option<SimOptions>
-    ensures { result ≡ sim_options (first_value (found_of matches.now)) }
+    ensures options { result ≡ sim_options (first_value (found_of matches.now)) }
+    ensures in_range { IfSome result AreSimOptions }
 {
     let draw = number_or(matches.get_str("draw"), 0, 0, u64::MAX)?;
     let steps = small_or(matches.get_str("steps"), 1_000, 0, 1_000_000)?;
@@ -87,7 +91,8 @@ fn sim_options(matches: &ArgMatches) -> Option<SimOptions>
 }
 
 fn run_line<'a>(matches: &ArgMatches<'a>) -> Option<CommandLine<'a>>
-    ensures { option_map line_of result ≡ run_line (first_value (found_of matches.now)) }
+    ensures line { option_map line_of result ≡ run_line (first_value (found_of matches.now)) }
+    ensures in_range { IfSome result IsInRange }
 {
     let module_name = matches.get_str("MODULE")?;
     let calls_name = matches.get_str("CALLS")?;
@@ -100,7 +105,8 @@ fn run_line<'a>(matches: &ArgMatches<'a>) -> Option<CommandLine<'a>>
 }
 
 fn big_line<'a>(matches: &ArgMatches<'a>) -> Option<CommandLine<'a>>
-    ensures { option_map line_of result ≡ big_line (first_value (found_of matches.now)) }
+    ensures line { option_map line_of result ≡ big_line (first_value (found_of matches.now)) }
+    ensures in_range { IfSome result IsInRange }
 {
     let calls = small_within(matches.get_str("N")?, 1, 65_536)?;
     let options = run_options(matches)?;
@@ -108,7 +114,8 @@ fn big_line<'a>(matches: &ArgMatches<'a>) -> Option<CommandLine<'a>>
 }
 
 fn eval_line<'a>(matches: &ArgMatches<'a>) -> Option<CommandLine<'a>>
-    ensures { option_map line_of result ≡ eval_line (first_value (found_of matches.now)) }
+    ensures line { option_map line_of result ≡ eval_line (first_value (found_of matches.now)) }
+    ensures in_range { IfSome result IsInRange }
 {
     let module_name = matches.get_str("MODULE")?;
     let calls_name = matches.get_str("CALLS")?;
@@ -121,7 +128,8 @@ fn eval_line<'a>(matches: &ArgMatches<'a>) -> Option<CommandLine<'a>>
 }
 
 fn sim_line<'a>(matches: &ArgMatches<'a>) -> Option<CommandLine<'a>>
-    ensures { option_map line_of result ≡ sim_line (first_value (found_of matches.now)) }
+    ensures line { option_map line_of result ≡ sim_line (first_value (found_of matches.now)) }
+    ensures in_range { IfSome result IsInRange }
 {
     let module_name = matches.get_str("MODULE")?;
     let calls_name = matches.get_str("CALLS")?;
@@ -134,7 +142,8 @@ fn sim_line<'a>(matches: &ArgMatches<'a>) -> Option<CommandLine<'a>>
 }
 
 fn dump_line<'a>(matches: &ArgMatches<'a>) -> Option<CommandLine<'a>>
-    ensures { option_map line_of result ≡ dump_line (first_value (found_of matches.now)) }
+    ensures line { option_map line_of result ≡ dump_line (first_value (found_of matches.now)) }
+    ensures in_range { IfSome result IsInRange }
 {
     let module_name = matches.get_str("MODULE")?;
     let level = small_or(matches.get_str("level"), 1, 1, GREATEST_LEVEL)?;
@@ -142,7 +151,8 @@ fn dump_line<'a>(matches: &ArgMatches<'a>) -> Option<CommandLine<'a>>
 }
 
 fn read_run<'a>(alloc: Global, words: &'a [String]) -> Result<Option<CommandLine<'a>>, NoMemory>
-    ensures { IfOk result (λ line. option_map line_of line ≡ line_in run_form run_line (words_of words.entry.now)) }
+    ensures line { IfOk result (λ line. option_map line_of line ≡ line_in run_form run_line (words_of words.entry.now)) }
+    ensures in_range { IfOk result (λ line. IfSome line IsInRange) }
 {
     let arguments = run_arguments(alloc)?;
     match matches_of(arguments, words)? {
@@ -152,7 +162,8 @@ fn read_run<'a>(alloc: Global, words: &'a [String]) -> Result<Option<CommandLine
 }
 
 fn read_big<'a>(alloc: Global, words: &'a [String]) -> Result<Option<CommandLine<'a>>, NoMemory>
-    ensures { IfOk result (λ line. option_map line_of line ≡ line_in big_form big_line (words_of words.entry.now)) }
+    ensures line { IfOk result (λ line. option_map line_of line ≡ line_in big_form big_line (words_of words.entry.now)) }
+    ensures in_range { IfOk result (λ line. IfSome line IsInRange) }
 {
     let arguments = big_arguments(alloc)?;
     match matches_of(arguments, words)? {
@@ -162,7 +173,8 @@ fn read_big<'a>(alloc: Global, words: &'a [String]) -> Result<Option<CommandLine
 }
 
 fn read_eval<'a>(alloc: Global, words: &'a [String]) -> Result<Option<CommandLine<'a>>, NoMemory>
-    ensures { IfOk result (λ line. option_map line_of line ≡ line_in eval_form eval_line (words_of words.entry.now)) }
+    ensures line { IfOk result (λ line. option_map line_of line ≡ line_in eval_form eval_line (words_of words.entry.now)) }
+    ensures in_range { IfOk result (λ line. IfSome line IsInRange) }
 {
     let arguments = eval_arguments(alloc)?;
     match matches_of(arguments, words)? {
@@ -172,7 +184,8 @@ fn read_eval<'a>(alloc: Global, words: &'a [String]) -> Result<Option<CommandLin
 }
 
 fn read_sim<'a>(alloc: Global, words: &'a [String]) -> Result<Option<CommandLine<'a>>, NoMemory>
-    ensures { IfOk result (λ line. option_map line_of line ≡ line_in sim_form sim_line (words_of words.entry.now)) }
+    ensures line { IfOk result (λ line. option_map line_of line ≡ line_in sim_form sim_line (words_of words.entry.now)) }
+    ensures in_range { IfOk result (λ line. IfSome line IsInRange) }
 {
     let arguments = sim_arguments(alloc)?;
     match matches_of(arguments, words)? {
@@ -182,7 +195,8 @@ fn read_sim<'a>(alloc: Global, words: &'a [String]) -> Result<Option<CommandLine
 }
 
 fn read_dump<'a>(alloc: Global, words: &'a [String]) -> Result<Option<CommandLine<'a>>, NoMemory>
-    ensures { IfOk result (λ line. option_map line_of line ≡ line_in dump_form dump_line (words_of words.entry.now)) }
+    ensures line { IfOk result (λ line. option_map line_of line ≡ line_in dump_form dump_line (words_of words.entry.now)) }
+    ensures in_range { IfOk result (λ line. IfSome line IsInRange) }
 {
     let arguments = dump_arguments(alloc)?;
     match matches_of(arguments, words)? {
@@ -197,7 +211,8 @@ pub fn read_words<'a>(
     alloc: Global,
     words: &'a [String],
 ) -> Result<Option<CommandLine<'a>>, NoMemory>
-    ensures { IfOk result (λ line. option_map line_of line ≡ command_of (words_of words.entry.now)) }
+    ensures line { IfOk result (λ line. option_map line_of line ≡ command_of (words_of words.entry.now)) }
+    ensures in_range { IfOk result (λ line. IfSome line IsInRange) }
 {
     match words {
         [name, rest @ ..] => match name.as_str() {

@@ -122,6 +122,15 @@ pub fn report_text(
     Ok(page.into_bytes())
 }
 
+/// The rows of a session: a line per function, a line per refused job, and the code words in use.
+pub fn settled_text(alloc: Global, module: &Checked, settled: &Settled) -> Result<Vec<u8>, NoMemory>
+    ensures { IfOk result (λ text. text.items ≡ rows_text module.now.module_.functions settled.now) }
+{
+    let mut page = Page::new(alloc);
+    push_settled(&mut page, module.module().functions.as_slice(), settled)?;
+    Ok(page.into_bytes())
+}
+
 /// The lines of the evaluations of calls of a module, in order.
 pub fn eval_text(
     alloc: Global,

@@ -5,8 +5,8 @@ use Rattle.jit_main.specs.declared.answered.Answered.{Answered}
 use Rattle.rj_io.specs.Faults.{Rose}
 use Rattle.rj_io.specs.Sinks.{Took}
 use Rattle.jit_main.specs.declared.stop.Stop.{Stop}
-use Rattle.jit_main.specs.declared.stop.Stop.TheVariants.{Usage, CannotRead, Unread, Unverified, TooBig, Uncalled, NotYet, NoRoom, NoMemory}
-use Rattle.jit_main.specs.Commands.{Line, command_of}
+use Rattle.jit_main.specs.declared.stop.Stop.TheVariants.{Usage, CannotRead, Unread, Unverified, TooBig, Uncalled, NoRoom, NoMemory}
+use Rattle.command_words.specs.Commands.{Line, command_of}
 use Rattle.jit_main.specs.Ends.{LineWrites, LineStops, LineCause, WordsCause, Cause, Stops, TextRefused, TookFront, Wrote, Sinks, Stopped, StoppedWhy, SaidWhy, WithText, WithoutMemory, TakesMemory, Written, Finished, status_of, status_when}
 
 abbrev Told : Type 0
@@ -23,7 +23,8 @@ wrote-all words told before now sinks line text is writes kept took same said = 
   write_told = λ more. absurd (omega (arith, more, same));
   quiet = λ which. said;
   stop = λ zero one five. absurd (zero refl);
-  usage = ((λ status. absurd cc), (λ none. absurd cc));
+  usage = λ status. absurd cc;
+  usage_told = λ none. absurd cc;
   load = λ status. absurd cc;
   load_told = λ more. absurd (omega (arith, more, kept));
   form = λ status. absurd cc;
@@ -41,7 +42,8 @@ wrote-unanswered words told before now sinks line text is writes kept took same 
   write_told = λ more. absurd (omega (arith, more, same));
   quiet = λ which. said;
   stop = λ zero one five. absurd (one refl);
-  usage = ((λ status. absurd cc), (λ none. absurd cc));
+  usage = λ status. absurd cc;
+  usage_told = λ none. absurd cc;
   load = λ status. absurd cc;
   load_told = λ more. absurd (omega (arith, more, kept));
   form = λ status. absurd cc;
@@ -64,7 +66,8 @@ wrote-front words told before now sinks line text b is writes kept took rose sai
   write_told = λ more. refl;
   quiet = λ which. said;
   stop = λ zero one five. absurd (five refl);
-  usage = ((λ status. absurd cc), (λ none. absurd cc));
+  usage = λ status. absurd cc;
+  usage_told = λ none. absurd cc;
   load = λ status. absurd cc;
   load_told = λ more. absurd (omega (arith, more, kept));
   form = λ status. absurd cc;
@@ -100,7 +103,8 @@ stopped-usage words told before now sinks is why kept stopped = record {
   write_told = λ more. absurd (omega (arith, more, stopped.faults));
   quiet = λ which. absurd (none-of 3 (λ is. absurd cc) (λ is. absurd cc) (λ is. absurd cc) which);
   stop = λ zero one five. (Usage, refl, why, stopped.out, stopped.said);
-  usage = ((λ status. is), (λ none. refl));
+  usage = λ status. is;
+  usage_told = λ none. inl refl;
   load = λ status. absurd cc;
   load_told = λ more. absurd (omega (arith, more, kept));
   form = λ status. absurd cc;
@@ -118,7 +122,8 @@ stopped-load words told before now sinks line stop four is why rose stopped = re
   write_told = λ more. absurd (omega (arith, more, stopped.faults));
   quiet = λ which. absurd (none-of 4 (λ is. absurd cc) (λ is. absurd cc) (λ is. absurd cc) which);
   stop = λ zero one five. (stop, four, why, stopped.out, stopped.said);
-  usage = ((λ status. absurd cc), (λ none. absurd cc));
+  usage = λ status. absurd cc;
+  usage_told = λ none. absurd cc;
   load = λ status. rose;
   load_told = λ more. refl;
   form = λ status. absurd cc;
@@ -136,7 +141,8 @@ stopped-text words told before now sinks line stop two is why stops kept stopped
   write_told = λ more. absurd (omega (arith, more, stopped.faults));
   quiet = λ which. absurd (none-of 2 (λ is. absurd cc) (λ is. absurd cc) (λ is. absurd cc) which);
   stop = λ zero one five. (stop, two, why, stopped.out, stopped.said);
-  usage = ((λ status. absurd cc), (λ none. absurd cc));
+  usage = λ status. absurd cc;
+  usage_told = λ none. absurd cc;
   load = λ status. absurd cc;
   load_told = λ more. absurd (omega (arith, more, kept));
   form = λ status. (stop, two, (line, is, stops));
@@ -144,27 +150,28 @@ stopped-text words told before now sinks line stop two is why stops kept stopped
 }
 
 -- the code has no room
-stopped-room : (words : List (List ℕ)) (told : Told) (before now : ℕ) (sinks : Sinks) (line : Line) (needed : ℕ) → command_of words ≡ Some line → Cause words told before now (NoRoom needed)
-    → LineStops line told (NoRoom needed) → now ≡ before → Stopped (NoRoom needed) 7 sinks → Finished words told before now sinks 7
-stopped-room words told before now sinks line needed is why stops kept stopped = record {
+stopped-room : (words : List (List ℕ)) (told : Told) (before now : ℕ) (sinks : Sinks) (line : Line) (needed had : ℕ) → command_of words ≡ Some line → Cause words told before now (NoRoom needed had)
+    → LineStops line told (NoRoom needed had) → now ≡ before → Stopped (NoRoom needed had) 7 sinks → Finished words told before now sinks 7
+stopped-room words told before now sinks line needed had is why stops kept stopped = record {
   answered = λ status. absurd cc;
   unanswered = λ status. absurd cc;
   front = λ status. absurd cc;
   write = λ status. absurd cc;
   write_told = λ more. absurd (omega (arith, more, stopped.faults));
   quiet = λ which. absurd (none-of 7 (λ is. absurd cc) (λ is. absurd cc) (λ is. absurd cc) which);
-  stop = λ zero one five. (NoRoom needed, refl, why, stopped.out, stopped.said);
-  usage = ((λ status. absurd cc), (λ none. absurd cc));
+  stop = λ zero one five. (NoRoom needed had, refl, why, stopped.out, stopped.said);
+  usage = λ status. absurd cc;
+  usage_told = λ none. absurd cc;
   load = λ status. absurd cc;
   load_told = λ more. absurd (omega (arith, more, kept));
   form = λ status. absurd cc;
-  room = λ status. (needed, (line, is, stops));
+  room = λ status. (needed, had, (line, is, stops));
 }
 
 -- there is no memory
-stopped-memory : (words : List (List ℕ)) (told : Told) (before now : ℕ) (sinks : Sinks) (line : Line) → command_of words ≡ Some line → Cause words told before now NoMemory
+stopped-memory : (words : List (List ℕ)) (told : Told) (before now : ℕ) (sinks : Sinks) → Cause words told before now NoMemory
     → now ≡ before → Stopped NoMemory 6 sinks → Finished words told before now sinks 6
-stopped-memory words told before now sinks line is why kept stopped = record {
+stopped-memory words told before now sinks why kept stopped = record {
   answered = λ status. absurd cc;
   unanswered = λ status. absurd cc;
   front = λ status. absurd cc;
@@ -172,7 +179,8 @@ stopped-memory words told before now sinks line is why kept stopped = record {
   write_told = λ more. absurd (omega (arith, more, stopped.faults));
   quiet = λ which. absurd (none-of 6 (λ is. absurd cc) (λ is. absurd cc) (λ is. absurd cc) which);
   stop = λ zero one five. (NoMemory, refl, why, stopped.out, stopped.said);
-  usage = ((λ status. absurd cc), (λ none. absurd cc));
+  usage = λ status. absurd cc;
+  usage_told = λ none. inr refl;
   load = λ status. absurd cc;
   load_told = λ more. absurd (omega (arith, more, kept));
   form = λ status. absurd cc;
@@ -187,9 +195,8 @@ stopped-line words told before now sinks line (Unread refusal) is why cause stop
 stopped-line words told before now sinks line (Unverified module_ refusal) is why cause stopped = stopped-text words told before now sinks line (Unverified module_ refusal) refl is why cause.0 cause.1 stopped
 stopped-line words told before now sinks line (TooBig bytes size) is why cause stopped = stopped-text words told before now sinks line (TooBig bytes size) refl is why cause.0 cause.1 stopped
 stopped-line words told before now sinks line (Uncalled refusal) is why cause stopped = stopped-text words told before now sinks line (Uncalled refusal) refl is why cause.0 cause.1 stopped
-stopped-line words told before now sinks line NotYet is why cause stopped = stopped-text words told before now sinks line NotYet refl is why cause.0 cause.1 stopped
-stopped-line words told before now sinks line (NoRoom needed) is why cause stopped = stopped-room words told before now sinks line needed is why cause.0 cause.1 stopped
-stopped-line words told before now sinks line NoMemory is why cause stopped = stopped-memory words told before now sinks line is why cause stopped
+stopped-line words told before now sinks line (NoRoom needed had) is why cause stopped = stopped-room words told before now sinks line needed had is why cause.0 cause.1 stopped
+stopped-line words told before now sinks line NoMemory is why cause stopped = stopped-memory words told before now sinks why cause stopped
 
 stopped-that : (words : List (List ℕ)) (told : Told) (before now : ℕ) (sinks : Sinks) (line : Line) (stop : Stop) (status : ℕ) → command_of words ≡ Some line
     → LineCause line told before now stop → Stopped stop status sinks → Finished words told before now sinks status
@@ -209,8 +216,7 @@ kept-there line told before now (Unread refusal) takes cause = cause.1
 kept-there line told before now (Unverified module_ refusal) takes cause = cause.1
 kept-there line told before now (TooBig bytes size) takes cause = cause.1
 kept-there line told before now (Uncalled refusal) takes cause = cause.1
-kept-there line told before now NotYet takes cause = absurd takes
-kept-there line told before now (NoRoom needed) takes cause = cause.1
+kept-there line told before now (NoRoom needed had) takes cause = cause.1
 kept-there line told before now NoMemory takes cause = cause
 
 stopped-said : (words : List (List ℕ)) (told : Told) (before now : ℕ) (sinks : Sinks) (line : Line) (stop : Stop) (status : ℕ) → command_of words ≡ Some line
@@ -243,6 +249,26 @@ no_command-said words told before now sinks status is kept out faults (WithoutMe
 pub no_command : (words : List (List ℕ)) (told : Told) (before now : ℕ) (sinks : Sinks) (status : ℕ) → command_of words ≡ None → now ≡ before
     → StoppedWhy Usage status sinks → Finished words told before now sinks status
 no_command words told before now sinks status is kept why = no_command-said words told before now sinks status is kept why.out why.faults why.said
+
+-- whatever the words are
+memory-cause : (found : Option Line) (told : Told) (before now : ℕ) → now ≡ before → WordsCause found told before now NoMemory
+memory-cause None told before now same = same
+memory-cause (Some line) told before now same = same
+
+no_words-said : (words : List (List ℕ)) (told : Told) (before now : ℕ) (sinks : Sinks) (status : ℕ) → now ≡ before
+    → sinks.out_new ≡ sinks.out_old → sinks.out_now ≡ sinks.out_before
+    → SaidWhy NoMemory status sinks.err_old sinks.err_new sinks.err_before sinks.err_now → Finished words told before now sinks status
+no_words-said words told before now sinks status kept out faults (WithText at said) =
+    subst (λ (n : ℕ). Finished words told before now sinks n) (sym at)
+    (stopped-memory words told before now sinks (memory-cause (command_of words) told before now kept) kept (record { status = refl; out = out; faults = faults; said = said }))
+no_words-said words told before now sinks status kept out faults (WithoutMemory takes at said) =
+    subst (λ (n : ℕ). Finished words told before now sinks n) (sym at)
+    (stopped-memory words told before now sinks (memory-cause (command_of words) told before now kept) kept (record { status = refl; out = out; faults = faults; said = said }))
+
+-- there is no memory to read the words
+pub no_words : (words : List (List ℕ)) (told : Told) (before now : ℕ) (sinks : Sinks) (status : ℕ) → now ≡ before
+    → StoppedWhy NoMemory status sinks → Finished words told before now sinks status
+no_words words told before now sinks status kept why = no_words-said words told before now sinks status kept why.out why.faults why.said
 
 -- a command of these words came to its end
 pub ended_by : (words : List (List ℕ)) (told : Told) (before now : ℕ) (sinks : Sinks) (line : Line) (ended : Result Answered Stop) (status : ℕ) → command_of words ≡ Some line

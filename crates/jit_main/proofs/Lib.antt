@@ -1,6 +1,10 @@
-pub mod Made
-pub mod Readying
-pub mod Fronts
-pub mod Stopping
+pub mod Completing
+pub mod Drawing
 pub mod Ending
+pub mod Few
+pub mod Firsts
+pub mod Fronts
 pub mod Listing
+pub mod Musts
+pub mod Readying
+pub mod Stopping

@@ -4,38 +4,56 @@ use Rattle.std.specs.Fmt.{decimal}
 use Rattle.rj_io.specs.Faults.{Rose}
 use Rattle.rj_io.specs.Sinks.{Took}
 use Rattle.refusal_texts.specs.Texts.{unread_text, unverified_text, no_image_text, uncalled_text}
-use Rattle.jit_main.specs.declared.command.Command.{Command}
-use Rattle.jit_main.specs.declared.command.Command.TheVariants.{Run, Eval}
 use Rattle.jit_main.specs.declared.stop.Stop.{Stop}
-use Rattle.jit_main.specs.declared.stop.Stop.TheVariants.{Usage, CannotRead, Unread, Unverified, TooBig, Uncalled, NotYet, NoRoom, NoMemory}
-use Rattle.jit_main.specs.Commands.{Line, command_of, AreTexts, IsNamed}
-use Rattle.jit_main.specs.Run.{NoModule, NoPass, NoImage, NoCalls, NotTaken, NoCode, Ran}
+use Rattle.jit_main.specs.declared.stop.Stop.TheVariants.{Usage, CannotRead, Unread, Unverified, TooBig, Uncalled, NoRoom, NoMemory}
+use Rattle.command_words.specs.Commands.{Line, run, big, eval, sim, dump, command_of}
+use Rattle.many_calls.specs.Texts as many
+use Rattle.jit_main.specs.Commands.{IsText, AreTexts, IsNamed}
+use Rattle.jit_main.specs.Run.{NoModule, NoPass, NoImage, NoCalls, NoCode, Ran, Counted}
 use Rattle.jit_main.specs.Evals.{Evaluated}
+use Rattle.jit_main.specs.Dumps.{Dumped}
+use Rattle.jit_main.specs.Sims.{Simulated}
 
--- why two texts have no answers under a command
-abbrev pub TextStop : Command → List ℕ → List ℕ → Stop → Type 0
-TextStop command module_text calls_text Usage = ⊥
-TextStop command module_text calls_text (CannotRead name) = ⊥
-TextStop command module_text calls_text (Unread refusal) = NoModule module_text refusal
-TextStop command module_text calls_text (Unverified module_ refusal) = NoPass module_text module_ refusal
-TextStop command module_text calls_text (TooBig bytes size) = NoImage module_text bytes size
-TextStop command module_text calls_text (Uncalled refusal) = NoCalls module_text calls_text refusal
-TextStop command module_text calls_text NotYet = (command ≡ Run) × NotTaken module_text calls_text
-TextStop command module_text calls_text (NoRoom needed) = (command ≡ Run) × NoCode module_text calls_text needed
-TextStop command module_text calls_text NoMemory = Unit {0}
+-- why a text has no checked module
+abbrev pub ModuleStop : List ℕ → Stop → Type 0
+ModuleStop module_text (Unread refusal) = NoModule module_text refusal
+ModuleStop module_text (Unverified module_ refusal) = NoPass module_text module_ refusal
+ModuleStop module_text NoMemory = Unit {0}
+ModuleStop module_text _ = ⊥
 
--- the text that a command writes for two texts, and whether a call in it is unanswered
-abbrev pub Writes : Command → List ℕ → List ℕ → List ℕ → Bool → Type 0
-Writes Run module_text calls_text text unanswered = Ran module_text calls_text text unanswered
-Writes Eval module_text calls_text text unanswered = Evaluated module_text calls_text text unanswered
+-- why two texts have no calls of a module, with so many bytes of data memory
+abbrev pub FrontStop : List ℕ → List ℕ → ℕ → Stop → Type 0
+FrontStop module_text calls_text room (TooBig bytes size) = NoImage module_text room bytes size
+FrontStop module_text calls_text room (Uncalled refusal) = NoCalls module_text calls_text room refusal
+FrontStop module_text calls_text room stop = ModuleStop module_text stop
 
--- this is the text that a command writes for what its files have
+-- why they have no answers of a run over so many code words
+abbrev pub RunStop : List ℕ → List ℕ → ℕ → ℕ → Stop → Type 0
+RunStop module_text calls_text room code_words (NoRoom needed had) = (had ≡ code_words) × NoCode module_text calls_text room code_words needed
+RunStop module_text calls_text room code_words stop = FrontStop module_text calls_text room stop
+
+-- two files have such texts
+abbrev pub OfTexts : (List ℕ → Option (List ℕ)) → List ℕ → List ℕ → (List ℕ → List ℕ → Type 0) → Type 0
+OfTexts told module_name calls_name P =
+    (module_text calls_text : List ℕ) × AreTexts told module_name calls_name module_text calls_text × P module_text calls_text
+
+-- this is the text that a command writes for what its files have, and whether a call in it is unanswered
 abbrev pub LineWrites : Line → (List ℕ → Option (List ℕ)) → List ℕ → Bool → Type 0
-LineWrites line told text unanswered = (module_text calls_text : List ℕ) × AreTexts told line module_text calls_text × Writes line.0 module_text calls_text text unanswered
+LineWrites (run module_name calls_name options) told text unanswered =
+    OfTexts told module_name calls_name (λ m c. Ran m c options text unanswered)
+LineWrites (big calls options) told text unanswered = Counted calls options text unanswered
+LineWrites (eval module_name calls_name room) told text unanswered = OfTexts told module_name calls_name (λ m c. Evaluated m c room text unanswered)
+LineWrites (sim module_name calls_name options) told text unanswered = OfTexts told module_name calls_name (λ m c. Simulated m c options text unanswered)
+LineWrites (dump module_name level) told text unanswered =
+    (module_text : List ℕ) × IsText (told module_name) module_text × Dumped module_text level text × (unanswered ≡ false)
 
 -- what a command's files have stops the program so
 abbrev pub LineStops : Line → (List ℕ → Option (List ℕ)) → Stop → Type 0
-LineStops line told stop = (module_text calls_text : List ℕ) × AreTexts told line module_text calls_text × TextStop line.0 module_text calls_text stop
+LineStops (run module_name calls_name options) told stop = OfTexts told module_name calls_name (λ m c. RunStop m c options.room options.code_words stop)
+LineStops (big calls options) told stop = RunStop many.module_text (many.calls_text calls) options.room options.code_words stop
+LineStops (eval module_name calls_name room) told stop = OfTexts told module_name calls_name (λ m c. FrontStop m c room stop)
+LineStops (sim module_name calls_name options) told stop = OfTexts told module_name calls_name (λ m c. RunStop m c options.room options.code_words stop)
+LineStops (dump module_name level) told stop = (module_text : List ℕ) × IsText (told module_name) module_text × ModuleStop module_text stop
 
 -- why a command stops before it writes: its line, the files, the counts of their faults before and after
 abbrev pub LineCause : Line → (List ℕ → Option (List ℕ)) → ℕ → ℕ → Stop → Type 0
@@ -45,13 +63,13 @@ LineCause line told before now (Unread refusal) = LineStops line told (Unread re
 LineCause line told before now (Unverified module_ refusal) = LineStops line told (Unverified module_ refusal) × (now ≡ before)
 LineCause line told before now (TooBig bytes size) = LineStops line told (TooBig bytes size) × (now ≡ before)
 LineCause line told before now (Uncalled refusal) = LineStops line told (Uncalled refusal) × (now ≡ before)
-LineCause line told before now NotYet = LineStops line told NotYet × (now ≡ before)
-LineCause line told before now (NoRoom needed) = LineStops line told (NoRoom needed) × (now ≡ before)
+LineCause line told before now (NoRoom needed had) = LineStops line told (NoRoom needed had) × (now ≡ before)
 LineCause line told before now NoMemory = now ≡ before
 
--- the same where the words may be no command
+-- the same where the words may be no command, or there is no memory to read them
 abbrev pub WordsCause : Option Line → (List ℕ → Option (List ℕ)) → ℕ → ℕ → Stop → Type 0
 WordsCause None told before now Usage = now ≡ before
+WordsCause None told before now NoMemory = now ≡ before
 WordsCause None told before now stop = ⊥
 WordsCause (Some line) told before now stop = LineCause line told before now stop
 
@@ -78,13 +96,12 @@ status_of Usage = 3
 status_of (CannotRead name) = 4
 status_of (Unread refusal) = 2
 status_of (Unverified module_ refusal) = 2
-status_of NotYet = 2
 status_of (TooBig bytes size) = 2
 status_of (Uncalled refusal) = 2
-status_of (NoRoom needed) = 7
+status_of (NoRoom needed had) = 7
 status_of NoMemory = 6
 
--- what the words name and the files have is refused: the module doesn't read or doesn't pass, has no image or isn't small, or the calls don't read
+-- what the words name and the files have is refused: the module doesn't read or doesn't pass, has no image, or the calls don't read
 abbrev pub TextRefused : List (List ℕ) → (List ℕ → Option (List ℕ)) → Type 0
 TextRefused words told = (stop : Stop) × (status_of stop ≡ 2) × Stops words told stop
 
@@ -95,18 +112,17 @@ status_when false = 0
 abbrev pub no_file_text : List ℕ → List ℕ
 no_file_text name = codes "reopt: cannot read " ++ (name ++ codes "\n")
 
-abbrev pub room_text : ℕ → List ℕ
-room_text needed = codes "reopt: code: needs " ++ decimal needed ++ codes " words, has 262144\n"
+abbrev pub room_text : ℕ → ℕ → List ℕ
+room_text needed had = codes "reopt: code: needs " ++ decimal needed ++ codes " words, has " ++ decimal had ++ codes "\n"
 
 abbrev pub text_of : Stop → List ℕ
 text_of Usage = codes "reopt: usage\n"
 text_of (CannotRead name) = no_file_text name.now
 text_of (Unread refusal) = unread_text refusal
 text_of (Unverified module_ refusal) = unverified_text module_.functions refusal
-text_of NotYet = codes "reopt: module: not yet\n"
 text_of (TooBig bytes size) = no_image_text bytes size
 text_of (Uncalled refusal) = uncalled_text refusal
-text_of (NoRoom needed) = room_text needed
+text_of (NoRoom needed had) = room_text needed had
 text_of NoMemory = codes "reopt: no memory\n"
 
 -- where a sink tells what it took, it took a front of this text more
@@ -127,7 +143,6 @@ pub record Said (old new : Option (List ℕ)) (before now : ℕ) (text : List �
 abbrev pub TakesMemory : Stop → Type 0
 TakesMemory Usage = ⊥
 TakesMemory (CannotRead name) = ⊥
-TakesMemory NotYet = ⊥
 TakesMemory stop = Unit {0}
 
 -- why the program stops was said: this, or that there is no memory for its text
@@ -176,8 +191,9 @@ pub record Finished (words : List (List ℕ)) (told : List ℕ → Option (List 
       × Cause words told before now stop
       × (sinks.out_new ≡ sinks.out_old)
       × Said sinks.err_old sinks.err_new sinks.err_before sinks.err_now (text_of stop)
-  pub usage : (status ≡ 3) ↔ (command_of words ≡ None)
+  pub usage : status ≡ 3 → command_of words ≡ None
+  pub usage_told : command_of words ≡ None → (status ≡ 3) ⊎ (status ≡ 6)
   pub load : status ≡ 4 → Rose before now
   pub load_told : before < now → status ≡ 4
   pub form : status ≡ 2 → TextRefused words told
-  pub room : status ≡ 7 → (needed : ℕ) × Stops words told (NoRoom needed)
+  pub room : status ≡ 7 → (needed had : ℕ) × Stops words told (NoRoom needed had)

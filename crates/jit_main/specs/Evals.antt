@@ -16,10 +16,10 @@ abbrev pub outcomes : Program → List ListedCall → List Outcome
 outcomes program list = map (outcome_of_call program) list
 
 -- the texts are those of a module and its list of calls, and the text has a line with the outcome of each call
-pub record Evaluated (module_text calls_text text : List ℕ) (unanswered : Bool) : Type 0 where
+pub record Evaluated (module_text calls_text : List ℕ) (room : ℕ) (text : List ℕ) (unanswered : Bool) : Type 0 where
   pub program : Program
   pub list : List ListedCall
-  pub is_module : IsCheckedText module_text program
+  pub is_module : IsCheckedText module_text room program
   pub image : HasImage program
   pub is_calls : calls_of program.module_ calls_text ≡ Ok list
   pub lines : text ≡ outcome_lines program.module_.functions list (outcomes program list)

@@ -1,6 +1,9 @@
 pub mod Commands
-pub mod Run
-pub mod Fronts
-pub mod Ready
-pub mod Evals
+pub mod Complete
+pub mod Dumps
 pub mod Ends
+pub mod Evals
+pub mod Fronts
+pub mod Images
+pub mod Run
+pub mod Sims

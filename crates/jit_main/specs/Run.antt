@@ -1,5 +1,5 @@
 -- A run of the calls of a module: what it writes, and why there is none.
-use Rattle.std.specs.Prelude.{◌≡◌, ℕ, ◌+◌, ◌-◌, ◌^◌, ◌<◌, ◌≤◌, min, Bool, List, [], ◌∷◌, length, sum_by, Ok, Err}
+use Rattle.std.specs.Prelude.{◌≡◌, ℕ, ◌+◌, ◌-◌, ◌^◌, ◌<◌, ◌≤◌, min, Bool, List, [], ◌++◌, length, Ok, Err, if◌then◌else◌}
 use Rattle.ir_core.specs.declared.program.Module.{Module}
 use Rattle.ir_core.specs.Program.{Program}
 use Rattle.ir_reader.specs.Reads.{Reads, Refuses as ShowsFault, IsMemoryRefusal}
@@ -8,14 +8,9 @@ use Rattle.ir_verify.specs.Verdict.{Passes, Refuses}
 use Rattle.ir_verify.specs.declared.refusal.VerifyRefusal.{VerifyRefusal}
 use Rattle.ir_verify.specs.declared.refusal.VerifyRefusal.TheVariants as rows
 use Rattle.ir_meaning.specs.declared.calls.ListedCall.{ListedCall}
-use Rattle.ir_meaning.specs.declared.calls.Ended.{Ended}
-use Rattle.ir_meaning.specs.Right.{Right}
 use Rattle.rv_play.specs.declared.version.Version.{Version}
-use Rattle.ir_meaning.specs.Meaning.{meaning}
 use Rattle.ir_meaning.specs.Memory.{data_start}
-use Rattle.quick_blocks.specs.Taken.{IsTaken}
-use Rattle.quick_blocks.specs.Written.{AreQuickWords}
-use Rattle.hart.specs.Fixed.{AllGood, AreInOrder}
+use Rattle.quick_module.specs.Modules.{AreQuick, Needs, words_needed}
 use Rattle.jit_main.specs.declared.stop.Stop.{Stop}
 use Rattle.jit_main.specs.declared.stop.Stop.TheVariants.{NoRoom, NoMemory}
 use Rattle.ir_data.specs.declared.image.Image.{Image}
@@ -25,54 +20,19 @@ use Rattle.ir_data.specs.Refusals.{Refuses as HasNoImage}
 use Rattle.jit_calls.specs.declared.lists.CallsRefusal.{CallsRefusal}
 use Rattle.jit_calls.specs.declared.lists.CallsRefusal.TheVariants as lists
 use Rattle.jit_calls.specs.Lists.{calls_of}
-use Rattle.jit_calls.specs.Answers.{answer_lines, any_unanswered}
+use Rattle.jit_calls.specs.Answers.{any_unanswered}
+use Rattle.jit_calls.specs.Reports.{report_lines, rows_text}
+use Rattle.jit_calls.specs.declared.settled.Settled.{Settled}
+use Rattle.jit_session.specs.Sessions.{IsSettled}
+use Rattle.command_words.specs.declared.line.RunOptions.{RunOptions}
+use Rattle.many_calls.specs.Texts as many
+use Rattle.many_calls.specs.Counts.{counts_line}
 
--- the bytes of data memory, and the code words that there are
-abbrev pub room : ℕ
-room = 1048576
-
-abbrev pub code_words : ℕ
-code_words = 262144
-
--- the text is that of a module that passes each row of the verifier
-pub record IsCheckedText (text : List ℕ) (program : Program) : Type 0 where
+-- the text is that of a module that passes each row of the verifier, with so many bytes of data memory
+pub record IsCheckedText (text : List ℕ) (room : ℕ) (program : Program) : Type 0 where
   pub reads : Reads text program.module_
   pub passes : Passes program.module_
   pub size : program.room ≡ room
-
--- the quick code of each function from a symbol on
-abbrev pub quick_from : Program → ℕ → List Version → Type 0
-quick_from program symbol [] = Unit {0}
-quick_from program symbol (version ∷ versions) = AreQuickWords program symbol version.words × quick_from program (symbol + 1) versions
-
--- the quick code of each function, in order
-pub record AreQuick (program : Program) (versions : List Version) : Type 0 where
-  pub quick : quick_from program 0 versions
-  pub count : length versions ≡ length program.module_.functions
-
--- the code words of versions, one header for each with them
-abbrev pub words_needed : List Version → ℕ
-words_needed versions = sum_by (λ (version : Version). length version.words + 1) versions
-
--- versions of the functions from symbol 0 on: their quick code, which is good
-pub record AreMade (program : Program) (versions : List Version) : Type 0 where
-  pub quick : quick_from program 0 versions
-  pub good : AllGood (meaning program) versions
-  pub ordered : AreInOrder 0 versions
-
--- each answer is right for its call
-abbrev pub AllRight : Program → List ListedCall → List Ended → Type 0
-AllRight program [] [] = Unit {0}
-AllRight program [] (end ∷ ends) = ⊥
-AllRight program (call ∷ calls) [] = ⊥
-AllRight program (call ∷ calls) (end ∷ ends) = Right program call end × AllRight program calls ends
-
--- the text is that of right answers to these calls
-pub record AnswersTo (program : Program) (list : List ListedCall) (text : List ℕ) (unanswered : Bool) : Type 0 where
-  pub ends : List Ended
-  pub right : AllRight program list ends
-  pub lines : text ≡ answer_lines program.module_.functions list ends
-  pub status : unanswered ≡ any_unanswered ends
 
 -- the image of the globals, which stands within the data memory
 abbrev pub IsImageFor : Program → Image → Type 0
@@ -81,22 +41,40 @@ IsImageFor program image = IsFirstImage program.module_.globals image × (image.
 abbrev pub HasImage : Program → Type 0
 HasImage program = (image : Image) × IsImageFor program image
 
--- the quick code of a module whose functions are taken fits, and the answers to these calls are right
-pub record Quick (program : Program) (list : List ListedCall) (text : List ℕ) (unanswered : Bool) : Type 0 where
+-- the quick code of a module fits the code words, and a session of its harts came to this over it: each answer is right
+pub record HasSettled (program : Program) (list : List ListedCall) (options : RunOptions) (settled : Settled) : Type 0 where
   pub versions : List Version
-  pub taken : IsTaken program.module_
   pub quick : AreQuick program versions
-  pub fits : words_needed versions ≤ code_words
-  pub answers : AnswersTo program list text unanswered
+  pub fits : words_needed versions ≤ options.code_words
+  pub marks : List ℕ
+  pub test : ℕ → ℕ → Bool
+  pub comes : IsSettled program list options.harts (length program.module_.functions) marks test settled
 
--- the texts are those of a module and its list of calls, and the answers to these calls are right
-pub record Ran (module_text calls_text text : List ℕ) (unanswered : Bool) : Type 0 where
-  pub program : Program
-  pub list : List ListedCall
-  pub is_module : IsCheckedText module_text program
+-- the texts are those of a module and its list of calls, and a session of these calls came to this
+pub record HasRun (module_text calls_text : List ℕ) (options : RunOptions) (program : Program) (list : List ListedCall) (settled : Settled) : Type 0 where
+  pub is_module : IsCheckedText module_text options.room program
   pub image : HasImage program
   pub is_calls : calls_of program.module_ calls_text ≡ Ok list
-  pub quick : Quick program list text unanswered
+  pub session : HasSettled program list options settled
+
+-- the text has a line with the right answer to each call, and the rows behind them where they are asked for
+pub record Ran (module_text calls_text : List ℕ) (options : RunOptions) (text : List ℕ) (unanswered : Bool) : Type 0 where
+  pub program : Program
+  pub list : List ListedCall
+  pub settled : Settled
+  pub has_run : HasRun module_text calls_text options program list settled
+  pub lines : text ≡ report_lines program.module_.functions list settled options.report
+  pub status : unanswered ≡ any_unanswered settled.answers
+
+-- the text is the line of the counts of right answers to so many calls of the module of many calls, and the rows behind it where they
+-- are asked for
+pub record Counted (calls : ℕ) (options : RunOptions) (text : List ℕ) (unanswered : Bool) : Type 0 where
+  pub program : Program
+  pub list : List ListedCall
+  pub settled : Settled
+  pub has_run : HasRun many.module_text (many.calls_text calls) options program list settled
+  pub line : text ≡ counts_line settled.answers ++ (if options.report then rows_text program.module_.functions settled else [])
+  pub status : unanswered ≡ any_unanswered settled.answers
 
 -- no module reads of the text, and the refusal shows its cause
 pub record NoModule (text : List ℕ) (refusal : ReadRefusal) : Type 0 where
@@ -115,9 +93,9 @@ pub record NoPass (text : List ℕ) (module_ : Module) (refusal : VerifyRefusal)
   pub refused : Refuses module_ refusal
 
 -- the module passes, and its globals take more bytes than the data memory has
-pub record NoImage (module_text : List ℕ) (bytes size : ℕ) : Type 0 where
+pub record NoImage (module_text : List ℕ) (room bytes size : ℕ) : Type 0 where
   pub program : Program
-  pub is_module : IsCheckedText module_text program
+  pub is_module : IsCheckedText module_text room program
   pub refused : HasNoImage program (TooBigFor bytes size)
 
 -- a refusal of a list of calls but for want of memory
@@ -126,41 +104,31 @@ IsListFault lists.NoMemory = ⊥
 IsListFault refusal = Unit {0}
 
 -- the module has its image, and this is why the list of calls is none of its
-pub record NoCalls (module_text calls_text : List ℕ) (refusal : CallsRefusal) : Type 0 where
+pub record NoCalls (module_text calls_text : List ℕ) (room : ℕ) (refusal : CallsRefusal) : Type 0 where
   pub program : Program
-  pub is_module : IsCheckedText module_text program
+  pub is_module : IsCheckedText module_text room program
   pub image : HasImage program
   pub fault : IsListFault refusal
   pub refused : calls_of program.module_ calls_text ≡ Err refusal
 
--- the module has its image and its calls, and not each of its functions is taken
-pub record NotTaken (module_text calls_text : List ℕ) : Type 0 where
-  pub program : Program
-  pub list : List ListedCall
-  pub is_module : IsCheckedText module_text program
-  pub image : HasImage program
-  pub is_calls : calls_of program.module_ calls_text ≡ Ok list
-  pub untaken : IsTaken program.module_ → ⊥
-
--- the quick code of a module whose functions are taken takes more words than there are
-pub record NoWords (program : Program) (needed : ℕ) : Type 0 where
-  pub versions : List Version
-  pub taken : IsTaken program.module_
-  pub quick : AreQuick program versions
-  pub more : code_words < words_needed versions
-  pub number : needed ≡ min (words_needed versions) (2 ^ 64 - 1)
+-- the quick code of a module takes more words than there are
+pub record NoWords (program : Program) (code_words needed : ℕ) : Type 0 where
+  pub words : ℕ
+  pub needs : Needs program words
+  pub more : code_words < words
+  pub number : needed ≡ min words (2 ^ 64 - 1)
 
 -- the module and its calls are such, and its quick code takes more words than there are
-pub record NoCode (module_text calls_text : List ℕ) (needed : ℕ) : Type 0 where
+pub record NoCode (module_text calls_text : List ℕ) (room code_words needed : ℕ) : Type 0 where
   pub program : Program
   pub list : List ListedCall
-  pub is_module : IsCheckedText module_text program
+  pub is_module : IsCheckedText module_text room program
   pub image : HasImage program
   pub is_calls : calls_of program.module_ calls_text ≡ Ok list
-  pub words : NoWords program needed
+  pub words : NoWords program code_words needed
 
--- why a module whose functions are taken has no answers
-abbrev pub QuickStop : Program → Stop → Type 0
-QuickStop program (NoRoom needed) = NoWords program needed
-QuickStop program NoMemory = Unit {0}
-QuickStop program _ = ⊥
+-- why a module has no answers over so many code words
+abbrev pub QuickStop : Program → ℕ → Stop → Type 0
+QuickStop program code_words (NoRoom needed had) = (had ≡ code_words) × NoWords program code_words needed
+QuickStop program code_words NoMemory = Unit {0}
+QuickStop program code_words _ = ⊥

@@ -1,10 +1,10 @@
 ghost use Rattle.std.specs.Prelude.{◌≡◌, IfOk, IfErr, map};
+ghost use Rattle.command_words.specs.Ranges.{IsRoom};
 ghost use Rattle.jit_calls.specs.Listed.{AllListed, IsListed};
 ghost use Rattle.jit_calls.specs.Answers.{outcome_lines, any_no_answer};
 ghost use Rattle.jit_main.specs.Run.{IsImageFor};
 ghost use Rattle.jit_main.specs.Evals.{outcome_of_call, outcomes, Evaluated};
-ghost use Rattle.jit_main.specs.Ends.{TextStop};
-ghost use Rattle.jit_main.specs.declared.command.Command.TheVariants.{Eval};
+ghost use Rattle.jit_main.specs.Ends.{FrontStop};
 
 use crate::answered::Answered;
 use crate::front::{Front, front_of};
@@ -56,15 +56,17 @@ pub fn eval_texts<'a>(
     alloc: Global,
     module_text: &[u8],
     calls_text: &[u8],
+    room: u64,
 ) -> Result<Answered, Stop<'a>>
-    ensures text { IfOk result (λ a. Evaluated module_text.now calls_text.now a.text.items a.is_unanswered) }
-    ensures stop { IfErr result (λ stop. TextStop Eval module_text.now calls_text.now stop) }
+    requires { IsRoom room }
+    ensures text { IfOk result (λ a. Evaluated module_text.now calls_text.now room a.text.items a.is_unanswered) }
+    ensures stop { IfErr result (λ stop. FrontStop module_text.now calls_text.now room stop) }
 {
     let Front {
         checked,
         image,
         calls,
-    } = match front_of(alloc, module_text, calls_text) {
+    } = match front_of(alloc, module_text, calls_text, room) {
         Ok(front) => front,
         Err(stop) => return Err(stop),
     };

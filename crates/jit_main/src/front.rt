@@ -1,11 +1,11 @@
-ghost use Rattle.std.specs.Prelude.{◌≡◌, List, ℕ, IfOk, IfErr, Ok};
+ghost use Rattle.std.specs.Prelude.{◌≡◌, ◌≤◌, List, ℕ, length, IfOk, IfErr, Ok};
+ghost use Rattle.command_words.specs.Ranges.{IsRoom};
 ghost use Rattle.jit_calls.specs.Listed.{AllListed};
 ghost use Rattle.jit_calls.specs.Lists.{calls_of};
 ghost use Rattle.ir_reader.specs.Reads.{Reads};
-ghost use Rattle.jit_main.specs.declared.command.Command.{Command};
 ghost use Rattle.jit_main.specs.Run.{IsCheckedText, HasImage, IsImageFor};
 ghost use Rattle.jit_main.specs.Fronts.{IsFrontOf};
-ghost use Rattle.jit_main.specs.Ends.{TextStop};
+ghost use Rattle.jit_main.specs.Ends.{ModuleStop, FrontStop};
 
 use crate::stop::Stop;
 use ir_core::program::Module;
@@ -19,9 +19,6 @@ use jit_calls::{CallsRefusal, read_calls};
 use sqlite_items::Items;
 use std::alloc::Global;
 
-/// The bytes of data memory.
-const ROOM: u64 = 1_048_576;
-
 /// What a module's text and the text of its calls say.
 #[derive(Drop)]
 pub struct Front {
@@ -33,7 +30,7 @@ pub struct Front {
 /// The module of a text.
 fn read_module<'a>(alloc: Global, text: &[u8]) -> Result<Module, Stop<'a>>
     ensures found { IfOk result (λ all. Reads text.now all) }
-    ensures stop { IfErr result (λ stop. (command : Command) → (calls_text : List ℕ) → TextStop command text.now calls_text stop) }
+    ensures stop { IfErr result (λ stop. ModuleStop text.now stop) }
 {
     match read(alloc, text) {
         Ok(module) => Ok(module),
@@ -43,34 +40,41 @@ fn read_module<'a>(alloc: Global, text: &[u8]) -> Result<Module, Stop<'a>>
 }
 
 /// The module of a text as a checked one.
-fn checked_module<'a>(alloc: Global, text: &[u8], module: Module) -> Result<Checked, Stop<'a>>
-    requires { Reads text.now «module» }
-    ensures found { IfOk result (λ checked. IsCheckedText text.now checked) }
-    ensures stop { IfErr result (λ stop. (command : Command) → (calls_text : List ℕ) → TextStop command text.now calls_text stop) }
+fn checked_module<'a>(
+    alloc: Global,
+    text: &[u8],
+    module: Module,
+    room: u64,
+) -> Result<Checked, Stop<'a>>
+    requires reads { Reads text.now «module» }
+    requires room { IsRoom room }
+    ensures found { IfOk result (λ checked. IsCheckedText text.now room checked) }
+    ensures stop { IfErr result (λ stop. ModuleStop text.now stop) }
 {
-    match verify(alloc, module, ROOM) {
+    match verify(alloc, module, room) {
         Ok(checked) => Ok(checked),
         Err((_, VerifyRefusal::NoMemory)) => Err(Stop::NoMemory),
         Err((module, refusal)) => Err(Stop::Unverified(module, refusal)),
     }
 }
 
-/// The checked module of a text.
-fn module_of<'a>(alloc: Global, text: &[u8]) -> Result<Checked, Stop<'a>>
-    ensures found { IfOk result (λ checked. IsCheckedText text.now checked) }
-    ensures stop { IfErr result (λ stop. (command : Command) → (calls_text : List ℕ) → TextStop command text.now calls_text stop) }
+/// The checked module of a text, with so many bytes of data memory.
+pub fn module_of<'a>(alloc: Global, text: &[u8], room: u64) -> Result<Checked, Stop<'a>>
+    requires { IsRoom room }
+    ensures found { IfOk result (λ checked. IsCheckedText text.now room checked) }
+    ensures stop { IfErr result (λ stop. ModuleStop text.now stop) }
 {
     match read_module(alloc, text) {
-        Ok(module) => checked_module(alloc, text, module),
+        Ok(module) => checked_module(alloc, text, module, room),
         Err(stop) => Err(stop),
     }
 }
 
 /// The image of the module's globals, where they fit the data memory.
-fn image_of<'a>(alloc: Global, text: &[u8], checked: &Checked) -> Result<Image, Stop<'a>>
-    requires { IsCheckedText text.now checked.now }
+fn image_of<'a>(alloc: Global, text: &[u8], room: u64, checked: &Checked) -> Result<Image, Stop<'a>>
+    requires { IsCheckedText text.now room checked.now }
     ensures found { IfOk result (λ image. IsImageFor checked.now image) }
-    ensures stop { IfErr result (λ stop. (command : Command) → (calls_text : List ℕ) → TextStop command text.now calls_text stop) }
+    ensures stop { IfErr result (λ stop. (calls_text : List ℕ) → FrontStop text.now calls_text room stop) }
 {
     match first_image(alloc, checked) {
         Ok(image) => Ok(image),
@@ -84,13 +88,15 @@ fn calls_in<'a>(
     alloc: Global,
     module_text: &[u8],
     calls_text: &[u8],
+    room: u64,
     checked: &Checked,
 ) -> Result<Items<ListedCall>, Stop<'a>>
-    requires text { IsCheckedText module_text.now checked.now }
+    requires text { IsCheckedText module_text.now room checked.now }
     requires image { HasImage checked.now }
     ensures calls { IfOk result (λ list. calls_of checked.now.module_ calls_text.now ≡ Ok list) }
     ensures listed { IfOk result (λ list. AllListed checked.now.module_.functions list) }
-    ensures stop { IfErr result (λ stop. (command : Command) → TextStop command module_text.now calls_text.now stop) }
+    ensures few { IfOk result (λ list. length list ≤ 65536) }
+    ensures stop { IfErr result (λ stop. FrontStop module_text.now calls_text.now room stop) }
 {
     match read_calls(alloc, calls_text, checked) {
         Ok(list) => Ok(list),
@@ -100,20 +106,27 @@ fn calls_in<'a>(
 }
 
 /// What two texts say, a module's and its calls', or why they say nothing.
-pub fn front_of<'a>(alloc: Global, module_text: &[u8], calls_text: &[u8]) -> Result<Front, Stop<'a>>
-    ensures found { IfOk result (λ front. IsFrontOf module_text.now calls_text.now front) }
+pub fn front_of<'a>(
+    alloc: Global,
+    module_text: &[u8],
+    calls_text: &[u8],
+    room: u64,
+) -> Result<Front, Stop<'a>>
+    requires { IsRoom room }
+    ensures found { IfOk result (λ front. IsFrontOf module_text.now calls_text.now room front) }
     ensures listed { IfOk result (λ front. AllListed front.checked.module_.functions front.calls) }
-    ensures stop { IfErr result (λ stop. (command : Command) → TextStop command module_text.now calls_text.now stop) }
+    ensures few { IfOk result (λ front. length front.calls ≤ 65536) }
+    ensures stop { IfErr result (λ stop. FrontStop module_text.now calls_text.now room stop) }
 {
-    let checked = match module_of(alloc, module_text) {
+    let checked = match module_of(alloc, module_text, room) {
         Ok(checked) => checked,
         Err(stop) => return Err(stop),
     };
-    let image = match image_of(alloc, module_text, &checked) {
+    let image = match image_of(alloc, module_text, room, &checked) {
         Ok(image) => image,
         Err(stop) => return Err(stop),
     };
-    match calls_in(alloc, module_text, calls_text, &checked) {
+    match calls_in(alloc, module_text, calls_text, room, &checked) {
         Ok(calls) => Ok(Front {
             checked,
             image,

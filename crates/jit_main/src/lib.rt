@@ -2,18 +2,18 @@
 #![tactic(auto)]
 
 mod answered;
+mod big;
 mod command;
+mod dump;
 mod eval;
 mod files;
 mod front;
+mod images;
 mod memory;
 mod run;
-mod session;
+mod sim;
 mod stop;
 mod tell;
 mod top;
 
 pub use top::{reopt, serial};
-
-#[cfg(test)]
-mod tests;

@@ -1,128 +1,171 @@
-ghost use Rattle.std.specs.Prelude.{◌≡◌, ◌+◌, ◌-◌, ◌^◌, ◌≤◌, ◌<◌, min, List, ℕ, [], length, IfOk, IfErr, Ok};
+//! A run of the calls of a module over harts on threads.
+ghost use Rattle.std.specs.Prelude.{◌≡◌, ◌+◌, ◌≤◌, length, IfOk, IfErr};
+ghost use Rattle.command_words.specs.Ranges.{AreRunOptions};
+ghost use Rattle.jit_calls.specs.Answers.{any_unanswered as is_one_unanswered};
 ghost use Rattle.jit_calls.specs.Listed.{AllListed};
-ghost use Rattle.ir_meaning.specs.declared.calls.ListedCall.{ListedCall};
-ghost use Rattle.quick_blocks.specs.Taken.{IsTaken};
-ghost use Rattle.jit_main.specs.Run.{IsImageFor, Quick, QuickStop, AreMade, words_needed, AnswersTo, Ran};
-ghost use Rattle.jit_main.specs.Ends.{TextStop};
-ghost use Rattle.jit_main.specs.declared.command.Command.TheVariants.{Run};
+ghost use Rattle.jit_calls.specs.Reports.{report_lines};
+ghost use Rattle.jit_main.specs.Run.{IsImageFor, QuickStop, HasSettled, HasRun, Ran};
+ghost use Rattle.jit_main.specs.Ends.{RunStop};
 
 use crate::answered::Answered;
 use crate::front::{Front, front_of};
-use crate::memory::OutOfMemory;
-use crate::session::session;
+use crate::images::image_for_harts;
 use crate::stop::Stop;
+use code_epochs::OpenRefusal;
+use command_words::RunOptions;
 use ir_data::image::Image;
 use ir_meaning::calls::ListedCall;
 use ir_verify::checked::Checked;
-use jit_calls::{answer_text, any_unanswered};
-use quick_blocks::compile::quick_flow;
-use quick_blocks::places::Places;
-use quick_blocks::taken::takes;
-use rv_play::version::Version;
+use jit_bench::Gate;
+use jit_calls::{Settled, any_unanswered, report_text};
+use jit_session::{Setup, run};
+use quick_blocks::compile::QuickMaker;
+use quick_module::quick_versions;
+use reopt_policy::ReoptPolicy;
+use rj_num::NoMemory;
+use sqlite_items::Items;
 use std::alloc::Global;
+use std::sync::Wait;
+use std::thread::Threads;
 
-/// The code words that there are.
-const CODE_WORDS: u64 = 262_144;
-
-/// The quick code of each function, in order.
-fn quick_versions(alloc: Global, checked: &Checked) -> Result<Vec<Version>, OutOfMemory>
-    requires { IsTaken checked.now.module_ }
-    ensures made { IfOk result (λ versions. AreMade checked.now versions.items) }
-    ensures count { IfOk result (λ versions. length versions.items ≡ length checked.now.module_.functions) }
-{
-    let globals = Places::new(alloc, checked)?;
-    let mut versions = Vec::new(alloc);
-    for symbol in 0..checked.module().functions.len() {
-        versions.push(quick_flow(alloc, checked, &globals, symbol as u32)?)?;
-    }
-    Ok(versions)
+/// A module, its list of calls, and what a session of these calls came to.
+#[derive(Drop)]
+pub struct Session {
+    pub checked: Checked,
+    pub calls: Items<ListedCall>,
+    pub settled: Settled,
 }
 
-/// The code words of versions, one header for each with them; 2^64 - 1 stands for more than that.
-fn words_needed(versions: &[Version]) -> u64
-    ensures { result ≡ min (words_needed versions.now) (2 ^ 64 - 1) }
+/// A maker for each of so many workers, and one more, by which the session settles.
+fn makers_for(alloc: Global, workers: u32) -> Result<Vec<QuickMaker>, NoMemory>
+    requires { workers ≤ 8 }
+    ensures { IfOk result (λ makers. length makers.items ≡ workers + 1) }
 {
-    let mut needed = 0u64;
-    for version in versions {
-        let words = version.words.len() as u64;
-        needed = needed.saturating_add(words).saturating_add(1);
-    }
-    needed
+    vec![in alloc; QuickMaker; workers as usize + 1].map_err(|_| NoMemory)
 }
 
-/// The answers to the calls of a module, as text.
-fn answers_to(
+/// What a session of the calls of a module comes to, or why there is none.
+fn settled_by<'a, R: Threads + Wait + Sync, P: ReoptPolicy + Send, G: Gate + Sync>(
+    rt: &R,
     alloc: Global,
     checked: &Checked,
-    image: Image,
-    versions: Vec<Version>,
+    first: Image,
     calls: &[ListedCall],
-) -> Result<Answered, OutOfMemory>
-    requires image { IsImageFor checked.now image }
-    requires made { AreMade checked.now versions.items }
-    requires count { length versions.items ≡ length checked.now.module_.functions }
-    requires fits { words_needed versions.items ≤ 4194304 }
+    options: RunOptions,
+    policy: P,
+    gate: &G,
+) -> Result<Settled, Stop<'a>>
+    requires image { IsImageFor checked.now first }
     requires calls { AllListed checked.now.module_.functions calls.now }
-    ensures text { IfOk result (λ a. AnswersTo checked.now calls.now a.text.items a.is_unanswered) }
-{
-    let functions = checked.module().functions.as_slice();
-    let ends = session(alloc, checked, image, versions, calls)?;
-    let text = answer_text(alloc, functions, calls, &ends)?;
-    Ok(Answered {
-        text,
-        is_unanswered: any_unanswered(&ends),
-    })
-}
-
-/// The answers to the calls of a module whose functions are taken, or why there are none.
-fn quick_answers<'a>(
-    alloc: Global,
-    checked: &Checked,
-    image: Image,
-    calls: &[ListedCall],
-) -> Result<Answered, Stop<'a>>
-    requires taken { IsTaken checked.now.module_ }
-    requires image { IsImageFor checked.now image }
-    requires calls { AllListed checked.now.module_.functions calls.now }
-    ensures text { IfOk result (λ a. Quick checked.now calls.now a.text.items a.is_unanswered) }
-    ensures stop { IfErr result (λ stop. QuickStop checked.now stop) }
+    requires few { length calls.now ≤ 65536 }
+    requires options { AreRunOptions options }
+    ensures settled { IfOk result (HasSettled checked.now calls.now options) }
+    ensures stop { IfErr result (QuickStop checked.now options.code_words) }
 {
     let versions = match quick_versions(alloc, checked) {
         Ok(versions) => versions,
-        Err(OutOfMemory) => return Err(Stop::NoMemory),
+        Err(NoMemory) => return Err(Stop::NoMemory),
     };
-    let needed = words_needed(&versions);
-    if CODE_WORDS < needed {
-        return Err(Stop::NoRoom(needed));
-    }
-    match answers_to(alloc, checked, image, versions, calls) {
-        Ok(answered) => Ok(answered),
-        Err(OutOfMemory) => Err(Stop::NoMemory),
+    let _ = checked.module();
+    let image = image_for_harts(first);
+    let makers = match makers_for(alloc, options.workers) {
+        Ok(makers) => makers,
+        Err(NoMemory) => return Err(Stop::NoMemory),
+    };
+    let setup = Setup {
+        harts: options.harts,
+        workers: options.workers,
+        code_words: options.code_words,
+    };
+    match run(
+        rt, alloc, checked, &image, calls, setup, versions, policy, makers, gate,
+    ) {
+        Ok(settled) => Ok(settled),
+        Err(OpenRefusal::NoRoom { needed, room }) => Err(Stop::NoRoom(needed, room)),
+        Err(OpenRefusal::NoMemory) => Err(Stop::NoMemory),
     }
 }
 
-/// The answers of a run to two texts, a module's and its calls', or why there are none.
-pub fn run_texts<'a>(
+/// A session of the calls of two texts, a module's and its calls'; or why there is none.
+pub fn session_of<'a, R: Threads + Wait + Sync, P: ReoptPolicy + Send, G: Gate + Sync>(
+    rt: &R,
     alloc: Global,
     module_text: &[u8],
     calls_text: &[u8],
-) -> Result<Answered, Stop<'a>>
-    ensures text { IfOk result (λ a. Ran module_text.now calls_text.now a.text.items a.is_unanswered) }
-    ensures stop { IfErr result (λ stop. TextStop Run module_text.now calls_text.now stop) }
+    options: RunOptions,
+    policy: P,
+    gate: &G,
+) -> Result<Session, Stop<'a>>
+    requires { AreRunOptions options }
+    ensures session { IfOk result (λ s. HasRun module_text.now calls_text.now options s.checked s.calls s.settled) }
+    ensures stop { IfErr result (λ stop. RunStop module_text.now calls_text.now options.room options.code_words stop) }
 {
     let Front {
         checked,
         image,
         calls,
-    } = match front_of(alloc, module_text, calls_text) {
+    } = match front_of(alloc, module_text, calls_text, options.room) {
         Ok(front) => front,
         Err(stop) => return Err(stop),
     };
-    if !takes(&checked) {
-        return Err(Stop::NotYet);
-    }
-    match quick_answers(alloc, &checked, image, calls.as_slice()) {
-        Ok(answered) => Ok(answered),
+    match settled_by(
+        rt,
+        alloc,
+        &checked,
+        image,
+        calls.as_slice(),
+        options,
+        policy,
+        gate,
+    ) {
+        Ok(settled) => Ok(Session {
+            checked,
+            calls,
+            settled,
+        }),
         Err(stop) => Err(stop),
+    }
+}
+
+/// The lines of a session.
+fn session_text(alloc: Global, session: &Session, rows: bool) -> Result<Answered, NoMemory>
+    requires { length session.now.settled.answers ≡ length session.now.calls }
+    ensures lines { IfOk result (λ a. a.text.items ≡ report_lines session.now.checked.module_.functions session.now.calls session.now.settled rows) }
+    ensures status { IfOk result (λ a. a.is_unanswered ≡ is_one_unanswered session.now.settled.answers) }
+{
+    let text = report_text(
+        alloc,
+        &session.checked,
+        session.calls.as_slice(),
+        &session.settled,
+        rows,
+    )?;
+    Ok(Answered {
+        text,
+        is_unanswered: any_unanswered(session.settled.answers.as_slice()),
+    })
+}
+
+/// What a run of two texts writes, a module's and its calls', or why nothing.
+pub fn run_texts<'a, R: Threads + Wait + Sync, P: ReoptPolicy + Send, G: Gate + Sync>(
+    rt: &R,
+    alloc: Global,
+    module_text: &[u8],
+    calls_text: &[u8],
+    options: RunOptions,
+    policy: P,
+    gate: &G,
+) -> Result<Answered, Stop<'a>>
+    requires { AreRunOptions options }
+    ensures text { IfOk result (λ a. Ran module_text.now calls_text.now options a.text.items a.is_unanswered) }
+    ensures stop { IfErr result (λ stop. RunStop module_text.now calls_text.now options.room options.code_words stop) }
+{
+    let session = match session_of(rt, alloc, module_text, calls_text, options, policy, gate) {
+        Ok(session) => session,
+        Err(stop) => return Err(stop),
+    };
+    match session_text(alloc, &session, options.report) {
+        Ok(answered) => Ok(answered),
+        Err(NoMemory) => Err(Stop::NoMemory),
     }
 }

@@ -18,10 +18,8 @@ pub enum Stop<'a> {
     TooBig(u64, u64),
     /// The text isn't a list of calls of the module.
     Uncalled(CallsRefusal),
-    /// Not each function of the module is taken.
-    NotYet,
-    /// The quick code takes so many code words, which are more than there are.
-    NoRoom(u64),
+    /// The quick code takes so many code words, and there are so many, which are fewer.
+    NoRoom(u64, u32),
     NoMemory,
 }
 
@@ -36,12 +34,8 @@ impl Stop<'_> {
         match self {
             Stop::Usage => 3,
             Stop::CannotRead(_) => 4,
-            Stop::Unread(_)
-            | Stop::Unverified(..)
-            | Stop::TooBig(..)
-            | Stop::Uncalled(_)
-            | Stop::NotYet => 2,
-            Stop::NoRoom(_) => 7,
+            Stop::Unread(_) | Stop::Unverified(..) | Stop::TooBig(..) | Stop::Uncalled(_) => 2,
+            Stop::NoRoom(..) => 7,
             Stop::NoMemory => 6,
         }
     }

@@ -34,14 +34,16 @@ fn say_unread<T: Sink>(err: &mut T, name: &str)
     }
 }
 
-/// The text that says how many code words the quick code takes.
-fn room_text(alloc: Global, needed: u64) -> Result<Vec<u8>, NoMemory>
-    ensures { IfOk result (λ text. text.items ≡ room_line needed) }
+/// The text that says how many code words the quick code takes, and how many there are.
+fn room_text(alloc: Global, needed: u64, had: u32) -> Result<Vec<u8>, NoMemory>
+    ensures { IfOk result (λ text. text.items ≡ room_line needed had) }
 {
     let mut page = Page::new(alloc);
     page.write(b"reopt: code: needs ")?;
     page.number(u128::from(needed))?;
-    page.write(b" words, has 262144\n")?;
+    page.write(b" words, has ")?;
+    page.number(u128::from(had))?;
+    page.write(b"\n")?;
     Ok(page.into_bytes())
 }
 
@@ -75,10 +77,6 @@ pub fn report<T: Sink>(alloc: Global, err: &mut T, stop: &Stop) -> u8
             say_unread(err, name);
             4
         }
-        Stop::NotYet => {
-            say(err, b"reopt: module: not yet\n");
-            2
-        }
         Stop::NoMemory => {
             say(err, b"reopt: no memory\n");
             6
@@ -90,6 +88,6 @@ pub fn report<T: Sink>(alloc: Global, err: &mut T, stop: &Stop) -> u8
         }
         Stop::TooBig(bytes, room) => say_made(err, no_image_text(alloc, *bytes, *room), 2),
         Stop::Uncalled(refusal) => say_made(err, uncalled_text(alloc, *refusal), 2),
-        Stop::NoRoom(needed) => say_made(err, room_text(alloc, *needed), 7),
+        Stop::NoRoom(needed, had) => say_made(err, room_text(alloc, *needed, *had), 7),
     }
 }

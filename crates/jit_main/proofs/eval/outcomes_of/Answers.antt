@@ -1,5 +1,4 @@
-use Rattle.jit_main.proofs.Listing.{one_outcome}
-use Rattle.jit_main.proofs.Made.{next_listed}
+use Rattle.jit_main.proofs.Listing.{next_listed, one_outcome}
 use Rattle.jit_main.proofs.eval.outcomes_of.Goals as goal
 
 pub outcome_of-requires-clause-call : goal.outcome_of-requires-clause-call

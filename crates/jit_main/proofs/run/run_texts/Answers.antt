@@ -1,5 +1,7 @@
-use Rattle.jit_main.specs.declared.command.Command.TheVariants.{Run}
+use Rattle.jit_main.proofs.Firsts.{as_many}
 use Rattle.jit_main.proofs.run.run_texts.Goals as goal
 
-pub returns-in-Err-clause-stop : goal.returns-in-Err-clause-stop
-returns-in-Err-clause-stop c = c.in-Err.ensures.stop Run
+pub session_text-requires : goal.session_text-requires
+session_text-requires g c =
+    let session = c.in-Ok.ensures.session.session in
+    as_many c.in-Ok.session.checked c.in-Ok.session.calls c.in-Ok.session.settled.answers session.comes.answers

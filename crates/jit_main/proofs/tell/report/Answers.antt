@@ -1,6 +1,6 @@
 use Rattle.std.proofs.Common.{◌≡◌, refl, subst, IfOk}
 use Rattle.refusal_texts.specs.Texts.{unverified_text}
-use Rattle.jit_main.specs.declared.stop.Stop.TheVariants.{Usage, CannotRead, Unread, Unverified, TooBig, Uncalled, NotYet, NoRoom}
+use Rattle.jit_main.specs.declared.stop.Stop.TheVariants.{Usage, CannotRead, Unread, Unverified, TooBig, Uncalled, NoRoom}
 use Rattle.jit_main.proofs.Fronts.{with_text, made_why}
 use Rattle.jit_main.proofs.tell.report.Goals as goal
 
@@ -9,9 +9,6 @@ returns-in-Usage g c = rw c.in-Usage.is (with_text Usage 3 _ _ _ _ refl c.say.en
 
 pub returns-in-CannotRead : goal.returns-in-CannotRead
 returns-in-CannotRead g c = rw c.in-CannotRead.is (with_text (CannotRead c.in-CannotRead.name) 4 _ _ _ _ refl c.say_unread.ensures)
-
-pub returns-in-NotYet : goal.returns-in-NotYet
-returns-in-NotYet g c = rw c.in-NotYet.is (with_text NotYet 2 _ _ _ _ refl c.say-in-NotYet.ensures)
 
 pub returns-in-Unread : goal.returns-in-Unread
 returns-in-Unread g c = rw c.in-Unread.is
@@ -31,4 +28,4 @@ returns-in-Uncalled g c = rw c.in-Uncalled.is
 
 pub returns-in-NoRoom : goal.returns-in-NoRoom
 returns-in-NoRoom g c = rw c.in-NoRoom.is
-    (made_why (NoRoom c.in-NoRoom.needed) c.room_text.result c.say_made-in-NoRoom.result 7 _ _ _ _ tt refl c.room_text.ensures c.say_made-in-NoRoom.ensures.made c.say_made-in-NoRoom.ensures.unmade)
+    (made_why (NoRoom c.in-NoRoom.needed c.in-NoRoom.had) c.room_text.result c.say_made-in-NoRoom.result 7 _ _ _ _ tt refl c.room_text.ensures c.say_made-in-NoRoom.ensures.made c.say_made-in-NoRoom.ensures.unmade)

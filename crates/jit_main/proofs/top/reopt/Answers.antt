@@ -1,11 +1,5 @@
+use Rattle.jit_main.proofs.Musts.{must}
 use Rattle.jit_main.proofs.top.reopt.Goals as goal
 
-pub returns-in-None-clause-stop : goal.returns-in-None-clause-stop
-returns-in-None-clause-stop g c =
-    let kept = c.serial.ensures.kept c.in-None.is in
-    (rw (kept.0, kept.1, kept.2) at c.run.ensures.finished).stop
-
-pub returns-in-None-clause-form : goal.returns-in-None-clause-form
-returns-in-None-clause-form g c =
-    let kept = c.serial.ensures.kept c.in-None.is in
-    (rw (kept.0, kept.1, kept.2) at c.run.ensures.finished).form
+pub returns-clause-must : goal.returns-clause-must
+returns-clause-must g c = must c.quick_need_is_one.ensures _ _ _ _ _ c.program.result c.program.ensures.finished
