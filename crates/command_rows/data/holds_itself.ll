@@ -1,0 +1,4 @@
+%t = type { i64, %t }
+define void @f() {
+  ret void
+}

@@ -1,0 +1,1 @@
+@g = global [131073 x i64] zeroinitializer

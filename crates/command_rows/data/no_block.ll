@@ -1,0 +1,3 @@
+define void @f() {
+  br label %out
+}

@@ -1,0 +1,3 @@
+define void @f(i1, i1, i1, i1, i1, i1, i1, i1, i1) {
+  ret void
+}

@@ -1,0 +1,1 @@
+@g = global [4294967297 x i8] zeroinitializer

@@ -1,0 +1,6 @@
+define void @f() {
+entry:
+  br label %next
+next:
+  br label %entry
+}

@@ -1,0 +1,4 @@
+define void @f() {
+  call void @llvm.trap()
+  ret void
+}

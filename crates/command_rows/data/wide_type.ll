@@ -1,0 +1,3 @@
+define i65 @f() {
+  ret i65 1
+}

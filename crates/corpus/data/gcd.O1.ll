@@ -1,0 +1,191 @@
+; ModuleID = 'gcd.c'
+source_filename = "gcd.c"
+target datalayout = "e-m:e-p:64:64-i64:64-i128:128-n64-S128"
+target triple = "riscv64-unknown-linux-gnu"
+
+; Function Attrs: nofree norecurse nosync nounwind readnone
+define dso_local signext i32 @gcd(i32 noundef signext %0, i32 noundef signext %1) local_unnamed_addr #0 {
+  %3 = icmp eq i32 %1, 0
+  br i1 %3, label %9, label %4
+
+4:                                                ; preds = %2, %4
+  %5 = phi i32 [ %6, %4 ], [ %0, %2 ]
+  %6 = phi i32 [ %7, %4 ], [ %1, %2 ]
+  %7 = urem i32 %5, %6
+  %8 = icmp eq i32 %7, 0
+  br i1 %8, label %9, label %4, !llvm.loop !6
+
+9:                                                ; preds = %4, %2
+  %10 = phi i32 [ %0, %2 ], [ %6, %4 ]
+  ret i32 %10
+}
+
+; Function Attrs: nofree nosync nounwind readnone
+define dso_local i64 @gcd_by_calls(i64 noundef %0, i64 noundef %1) local_unnamed_addr #1 {
+  %3 = icmp eq i64 %1, 0
+  br i1 %3, label %4, label %6
+
+4:                                                ; preds = %2
+  %5 = call i64 @llvm.abs.i64(i64 %0, i1 true)
+  br label %9
+
+6:                                                ; preds = %2
+  %7 = srem i64 %0, %1
+  %8 = call i64 @gcd_by_calls(i64 noundef %1, i64 noundef %7) #3
+  br label %9
+
+9:                                                ; preds = %6, %4
+  %10 = phi i64 [ %5, %4 ], [ %8, %6 ]
+  ret i64 %10
+}
+
+; Function Attrs: nofree norecurse nosync nounwind readnone
+define dso_local i64 @lcm(i32 noundef signext %0, i32 noundef signext %1) local_unnamed_addr #0 {
+  %3 = icmp ne i32 %0, 0
+  %4 = icmp ne i32 %1, 0
+  %5 = and i1 %3, %4
+  br i1 %5, label %6, label %16
+
+6:                                                ; preds = %2, %6
+  %7 = phi i32 [ %8, %6 ], [ %0, %2 ]
+  %8 = phi i32 [ %9, %6 ], [ %1, %2 ]
+  %9 = urem i32 %7, %8
+  %10 = icmp eq i32 %9, 0
+  br i1 %10, label %11, label %6, !llvm.loop !6
+
+11:                                               ; preds = %6
+  %12 = udiv i32 %0, %8
+  %13 = zext i32 %12 to i64
+  %14 = zext i32 %1 to i64
+  %15 = mul nuw i64 %13, %14
+  br label %16
+
+16:                                               ; preds = %2, %11
+  %17 = phi i64 [ %15, %11 ], [ 0, %2 ]
+  ret i64 %17
+}
+
+; Function Attrs: nofree norecurse nosync nounwind readnone
+define dso_local i64 @inverse(i64 noundef %0, i64 noundef %1) local_unnamed_addr #0 {
+  %3 = srem i64 %0, %1
+  %4 = icmp eq i64 %3, 0
+  br i1 %4, label %16, label %5
+
+5:                                                ; preds = %2, %5
+  %6 = phi i64 [ %7, %5 ], [ %1, %2 ]
+  %7 = phi i64 [ %12, %5 ], [ %3, %2 ]
+  %8 = phi i64 [ %14, %5 ], [ 1, %2 ]
+  %9 = phi i64 [ %8, %5 ], [ 0, %2 ]
+  %10 = sdiv i64 %6, %7
+  %11 = mul nsw i64 %10, %7
+  %12 = sub nsw i64 %6, %11
+  %13 = mul nsw i64 %10, %8
+  %14 = sub nsw i64 %9, %13
+  %15 = icmp eq i64 %12, 0
+  br i1 %15, label %16, label %5, !llvm.loop !9
+
+16:                                               ; preds = %5, %2
+  %17 = phi i64 [ 0, %2 ], [ %8, %5 ]
+  %18 = phi i64 [ %1, %2 ], [ %7, %5 ]
+  %19 = icmp eq i64 %18, 1
+  %20 = icmp slt i64 %17, 0
+  %21 = select i1 %20, i64 %1, i64 0
+  %22 = add nsw i64 %21, %17
+  %23 = select i1 %19, i64 %22, i64 -1
+  ret i64 %23
+}
+
+; Function Attrs: nofree norecurse nosync nounwind readnone
+define dso_local signext i32 @binary_gcd(i32 noundef signext %0, i32 noundef signext %1) local_unnamed_addr #0 {
+  %3 = icmp eq i32 %0, 0
+  br i1 %3, label %45, label %4
+
+4:                                                ; preds = %2
+  %5 = icmp eq i32 %1, 0
+  br i1 %5, label %45, label %6
+
+6:                                                ; preds = %4
+  %7 = or i32 %1, %0
+  %8 = and i32 %7, 1
+  %9 = icmp eq i32 %8, 0
+  br i1 %9, label %14, label %10
+
+10:                                               ; preds = %14, %6
+  %11 = phi i32 [ %0, %6 ], [ %18, %14 ]
+  %12 = phi i32 [ %1, %6 ], [ %19, %14 ]
+  %13 = phi i32 [ 0, %6 ], [ %20, %14 ]
+  br label %24
+
+14:                                               ; preds = %6, %14
+  %15 = phi i32 [ %20, %14 ], [ 0, %6 ]
+  %16 = phi i32 [ %19, %14 ], [ %1, %6 ]
+  %17 = phi i32 [ %18, %14 ], [ %0, %6 ]
+  %18 = lshr i32 %17, 1
+  %19 = lshr i32 %16, 1
+  %20 = add nuw nsw i32 %15, 1
+  %21 = or i32 %19, %18
+  %22 = and i32 %21, 1
+  %23 = icmp eq i32 %22, 0
+  br i1 %23, label %14, label %10, !llvm.loop !10
+
+24:                                               ; preds = %24, %10
+  %25 = phi i32 [ %28, %24 ], [ %11, %10 ]
+  %26 = and i32 %25, 1
+  %27 = icmp eq i32 %26, 0
+  %28 = lshr i32 %25, 1
+  br i1 %27, label %24, label %29, !llvm.loop !11
+
+29:                                               ; preds = %24, %37
+  %30 = phi i32 [ %39, %37 ], [ %25, %24 ]
+  %31 = phi i32 [ %41, %37 ], [ %12, %24 ]
+  br label %32
+
+32:                                               ; preds = %32, %29
+  %33 = phi i32 [ %31, %29 ], [ %36, %32 ]
+  %34 = and i32 %33, 1
+  %35 = icmp eq i32 %34, 0
+  %36 = lshr i32 %33, 1
+  br i1 %35, label %32, label %37, !llvm.loop !12
+
+37:                                               ; preds = %32
+  %38 = icmp ugt i32 %30, %33
+  %39 = select i1 %38, i32 %33, i32 %30
+  %40 = select i1 %38, i32 %30, i32 %33
+  %41 = sub i32 %40, %39
+  %42 = icmp eq i32 %41, 0
+  br i1 %42, label %43, label %29, !llvm.loop !13
+
+43:                                               ; preds = %37
+  %44 = shl i32 %39, %13
+  br label %45
+
+45:                                               ; preds = %4, %2, %43
+  %46 = phi i32 [ %44, %43 ], [ %1, %2 ], [ %0, %4 ]
+  ret i32 %46
+}
+
+; Function Attrs: nofree nosync nounwind readnone speculatable willreturn
+declare i64 @llvm.abs.i64(i64, i1 immarg) #2
+
+attributes #0 = { nofree norecurse nosync nounwind readnone "frame-pointer"="none" "min-legal-vector-width"="0" "no-builtins" "no-trapping-math"="true" "stack-protector-buffer-size"="8" "target-features"="+64bit,+m" }
+attributes #1 = { nofree nosync nounwind readnone "frame-pointer"="none" "min-legal-vector-width"="0" "no-builtins" "no-trapping-math"="true" "stack-protector-buffer-size"="8" "target-features"="+64bit,+m" }
+attributes #2 = { nofree nosync nounwind readnone speculatable willreturn }
+attributes #3 = { nobuiltin "no-builtins" }
+
+!llvm.module.flags = !{!0, !1, !2, !3, !4}
+!llvm.ident = !{!5}
+
+!0 = !{i32 1, !"wchar_size", i32 4}
+!1 = !{i32 1, !"target-abi", !"lp64"}
+!2 = !{i32 7, !"PIC Level", i32 2}
+!3 = !{i32 7, !"PIE Level", i32 2}
+!4 = !{i32 1, !"SmallDataLimit", i32 8}
+!5 = !{!"Debian clang version 14.0.6"}
+!6 = distinct !{!6, !7, !8}
+!7 = !{!"llvm.loop.mustprogress"}
+!8 = !{!"llvm.loop.unroll.disable"}
+!9 = distinct !{!9, !7, !8}
+!10 = distinct !{!10, !7, !8}
+!11 = distinct !{!11, !7, !8}
+!12 = distinct !{!12, !7, !8}
+!13 = distinct !{!13, !7, !8}

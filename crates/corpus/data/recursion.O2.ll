@@ -1,0 +1,286 @@
+; ModuleID = 'recursion.c'
+source_filename = "recursion.c"
+target datalayout = "e-m:e-p:64:64-i64:64-i128:128-n64-S128"
+target triple = "riscv64-unknown-linux-gnu"
+
+@moves = internal unnamed_addr global i64 0, align 8
+
+; Function Attrs: nofree nosync nounwind readnone
+define dso_local signext i32 @ack(i32 noundef signext %0, i32 noundef signext %1) local_unnamed_addr #0 {
+  %3 = tail call fastcc signext i32 @ackermann(i32 noundef signext %0, i32 noundef signext %1) #4
+  ret i32 %3
+}
+
+; Function Attrs: nofree nosync nounwind readnone
+define internal fastcc signext i32 @ackermann(i32 noundef signext %0, i32 noundef signext %1) unnamed_addr #0 {
+  %3 = icmp eq i32 %0, 0
+  br i1 %3, label %4, label %7
+
+4:                                                ; preds = %11, %2
+  %5 = phi i32 [ %1, %2 ], [ %12, %11 ]
+  %6 = add nsw i32 %5, 1
+  ret i32 %6
+
+7:                                                ; preds = %2, %11
+  %8 = phi i32 [ %12, %11 ], [ %1, %2 ]
+  %9 = phi i32 [ %13, %11 ], [ %0, %2 ]
+  %10 = icmp eq i32 %8, 0
+  br i1 %10, label %11, label %15
+
+11:                                               ; preds = %7, %15
+  %12 = phi i32 [ %17, %15 ], [ 1, %7 ]
+  %13 = add nsw i32 %9, -1
+  %14 = icmp eq i32 %13, 0
+  br i1 %14, label %4, label %7
+
+15:                                               ; preds = %7
+  %16 = add nsw i32 %8, -1
+  %17 = tail call fastcc signext i32 @ackermann(i32 noundef signext %9, i32 noundef signext %16) #4
+  br label %11
+}
+
+; Function Attrs: nofree norecurse nosync nounwind readnone
+define dso_local zeroext i1 @is_even(i32 noundef signext %0) local_unnamed_addr #1 {
+  br label %2
+
+2:                                                ; preds = %4, %1
+  %3 = phi i32 [ %0, %1 ], [ %5, %4 ]
+  switch i32 %3, label %4 [
+    i32 0, label %7
+    i32 1, label %6
+  ]
+
+4:                                                ; preds = %2
+  %5 = add i32 %3, -2
+  br label %2
+
+6:                                                ; preds = %2
+  br label %7
+
+7:                                                ; preds = %2, %6
+  %8 = phi i1 [ false, %6 ], [ true, %2 ]
+  ret i1 %8
+}
+
+; Function Attrs: nofree nosync nounwind
+define dso_local i64 @towers(i32 noundef signext %0) local_unnamed_addr #2 {
+  store i64 0, ptr @moves, align 8, !tbaa !6
+  tail call fastcc void @hanoi(i32 noundef signext %0, i32 noundef signext 0, i32 noundef signext 2, i32 noundef signext 1) #4
+  %2 = load i64, ptr @moves, align 8, !tbaa !6
+  ret i64 %2
+}
+
+; Function Attrs: nofree nosync nounwind
+define internal fastcc void @hanoi(i32 noundef signext %0, i32 noundef signext %1, i32 noundef signext %2, i32 noundef signext %3) unnamed_addr #2 {
+  %5 = icmp eq i32 %0, 0
+  br i1 %5, label %19, label %6
+
+6:                                                ; preds = %4
+  %7 = zext i32 %2 to i64
+  br label %8
+
+8:                                                ; preds = %6, %8
+  %9 = phi i32 [ %3, %6 ], [ %10, %8 ]
+  %10 = phi i32 [ %1, %6 ], [ %9, %8 ]
+  %11 = phi i32 [ %0, %6 ], [ %12, %8 ]
+  %12 = add nsw i32 %11, -1
+  tail call fastcc void @hanoi(i32 noundef signext %12, i32 noundef signext %10, i32 noundef signext %9, i32 noundef signext %2) #4
+  %13 = load i64, ptr @moves, align 8, !tbaa !6
+  %14 = mul i64 %13, 3
+  %15 = zext i32 %10 to i64
+  %16 = sub nsw i64 %15, %7
+  %17 = add i64 %16, %14
+  store i64 %17, ptr @moves, align 8, !tbaa !6
+  %18 = icmp eq i32 %12, 0
+  br i1 %18, label %19, label %8
+
+19:                                               ; preds = %8, %4
+  ret void
+}
+
+; Function Attrs: nofree nosync nounwind readnone
+define dso_local i64 @tribonacci(i32 noundef signext %0) local_unnamed_addr #0 {
+  %2 = icmp slt i32 %0, 2
+  br i1 %2, label %20, label %3
+
+3:                                                ; preds = %1, %7
+  %4 = phi i32 [ %12, %7 ], [ %0, %1 ]
+  %5 = phi i64 [ %14, %7 ], [ 0, %1 ]
+  %6 = icmp eq i32 %4, 2
+  br i1 %6, label %16, label %7
+
+7:                                                ; preds = %3
+  %8 = add nsw i32 %4, -1
+  %9 = tail call i64 @tribonacci(i32 noundef signext %8) #4
+  %10 = add nsw i32 %4, -2
+  %11 = tail call i64 @tribonacci(i32 noundef signext %10) #4
+  %12 = add nsw i32 %4, -3
+  %13 = add i64 %9, %5
+  %14 = add i64 %13, %11
+  %15 = icmp ult i32 %4, 5
+  br i1 %15, label %16, label %3
+
+16:                                               ; preds = %3, %7
+  %17 = phi i64 [ %14, %7 ], [ %5, %3 ]
+  %18 = phi i64 [ 0, %7 ], [ 1, %3 ]
+  %19 = add nsw i64 %18, %17
+  br label %20
+
+20:                                               ; preds = %16, %1
+  %21 = phi i64 [ %19, %16 ], [ 0, %1 ]
+  ret i64 %21
+}
+
+; Function Attrs: nofree nosync nounwind readnone
+define dso_local signext i32 @josephus(i32 noundef signext %0, i32 noundef signext %1) local_unnamed_addr #0 {
+  %3 = icmp eq i32 %0, 1
+  br i1 %3, label %4, label %6
+
+4:                                                ; preds = %2, %6
+  %5 = phi i32 [ %10, %6 ], [ 0, %2 ]
+  ret i32 %5
+
+6:                                                ; preds = %2
+  %7 = add nsw i32 %0, -1
+  %8 = tail call signext i32 @josephus(i32 noundef signext %7, i32 noundef signext %1) #4
+  %9 = add nsw i32 %8, %1
+  %10 = srem i32 %9, %0
+  br label %4
+}
+
+; Function Attrs: nofree nosync nounwind readnone
+define dso_local signext i32 @hofstadter_f(i32 noundef signext %0) local_unnamed_addr #0 {
+  %2 = icmp eq i32 %0, 0
+  br i1 %2, label %3, label %5
+
+3:                                                ; preds = %1, %5
+  %4 = phi i32 [ %9, %5 ], [ 1, %1 ]
+  ret i32 %4
+
+5:                                                ; preds = %1
+  %6 = add nsw i32 %0, -1
+  %7 = tail call signext i32 @hofstadter_f(i32 noundef signext %6) #4
+  %8 = tail call fastcc signext i32 @hofstadter_m(i32 noundef signext %7) #4
+  %9 = sub nsw i32 %0, %8
+  br label %3
+}
+
+; Function Attrs: nofree nosync nounwind readnone
+define internal fastcc signext i32 @hofstadter_m(i32 noundef signext %0) unnamed_addr #0 {
+  %2 = icmp eq i32 %0, 0
+  br i1 %2, label %3, label %5
+
+3:                                                ; preds = %1, %5
+  %4 = phi i32 [ %9, %5 ], [ 0, %1 ]
+  ret i32 %4
+
+5:                                                ; preds = %1
+  %6 = add nsw i32 %0, -1
+  %7 = tail call fastcc signext i32 @hofstadter_m(i32 noundef signext %6) #4
+  %8 = tail call signext i32 @hofstadter_f(i32 noundef signext %7) #4
+  %9 = sub nsw i32 %0, %8
+  br label %3
+}
+
+; Function Attrs: nofree nosync nounwind readnone
+define dso_local i64 @power(i64 noundef %0, i32 noundef signext %1) local_unnamed_addr #0 {
+  %3 = icmp eq i32 %1, 0
+  br i1 %3, label %4, label %6
+
+4:                                                ; preds = %2, %6
+  %5 = phi i64 [ %13, %6 ], [ 1, %2 ]
+  ret i64 %5
+
+6:                                                ; preds = %2
+  %7 = lshr i32 %1, 1
+  %8 = tail call i64 @power(i64 noundef %0, i32 noundef signext %7) #4
+  %9 = and i32 %1, 1
+  %10 = icmp eq i32 %9, 0
+  %11 = select i1 %10, i64 1, i64 %0
+  %12 = mul i64 %8, %11
+  %13 = mul i64 %12, %8
+  br label %4
+}
+
+; Function Attrs: mustprogress nofree norecurse nosync nounwind readnone willreturn
+define dso_local signext i32 @sum_of_eight(i32 noundef signext %0, i64 noundef %1, i16 noundef signext %2, i8 noundef signext %3, i32 noundef signext %4, i16 noundef zeroext %5, i8 noundef zeroext %6, i1 noundef zeroext %7) local_unnamed_addr #3 {
+  %9 = zext i32 %0 to i64
+  %10 = shl nsw i64 %1, 1
+  %11 = add i64 %10, %9
+  %12 = sext i16 %2 to i64
+  %13 = mul nsw i64 %12, 3
+  %14 = add i64 %11, %13
+  %15 = sext i8 %3 to i64
+  %16 = shl nsw i64 %15, 2
+  %17 = and i64 %16, 4294967292
+  %18 = add i64 %14, %17
+  %19 = zext i32 %4 to i64
+  %20 = mul nuw nsw i64 %19, 5
+  %21 = add i64 %18, %20
+  %22 = zext i16 %5 to i64
+  %23 = mul nuw nsw i64 %22, 6
+  %24 = add i64 %21, %23
+  %25 = zext i8 %6 to i64
+  %26 = mul nuw nsw i64 %25, 7
+  %27 = add i64 %24, %26
+  %28 = select i1 %7, i64 8, i64 0
+  %29 = add i64 %27, %28
+  %30 = trunc i64 %29 to i32
+  ret i32 %30
+}
+
+; Function Attrs: nofree nosync nounwind readnone
+define dso_local signext i32 @through(i32 noundef signext %0) local_unnamed_addr #0 {
+  %2 = icmp slt i32 %0, 1
+  br i1 %2, label %25, label %3
+
+3:                                                ; preds = %1
+  %4 = zext i32 %0 to i64
+  br label %5
+
+5:                                                ; preds = %3, %5
+  %6 = phi i64 [ %4, %3 ], [ %21, %5 ]
+  %7 = phi i32 [ 0, %3 ], [ %23, %5 ]
+  %8 = sub nsw i64 0, %6
+  %9 = shl nsw i64 %8, 1
+  %10 = add nsw i64 %9, %6
+  %11 = shl i64 %6, 48
+  %12 = ashr exact i64 %11, 48
+  %13 = mul nsw i64 %12, 3
+  %14 = shl i64 %8, 56
+  %15 = ashr exact i64 %14, 54
+  %16 = mul nuw nsw i64 %6, 5
+  %17 = add nsw i64 %10, %16
+  %18 = add nsw i64 %17, %15
+  %19 = add nsw i64 %18, %13
+  %20 = trunc i64 %19 to i32
+  %21 = add nsw i64 %6, -1
+  %22 = add i32 %7, 1426
+  %23 = add i32 %22, %20
+  %24 = icmp ult i64 %6, 2
+  br i1 %24, label %25, label %5
+
+25:                                               ; preds = %5, %1
+  %26 = phi i32 [ 0, %1 ], [ %23, %5 ]
+  ret i32 %26
+}
+
+attributes #0 = { nofree nosync nounwind readnone "frame-pointer"="none" "min-legal-vector-width"="0" "no-builtins" "no-trapping-math"="true" "stack-protector-buffer-size"="8" "target-features"="+64bit,+m" }
+attributes #1 = { nofree norecurse nosync nounwind readnone "frame-pointer"="none" "min-legal-vector-width"="0" "no-builtins" "no-trapping-math"="true" "stack-protector-buffer-size"="8" "target-features"="+64bit,+m" }
+attributes #2 = { nofree nosync nounwind "frame-pointer"="none" "min-legal-vector-width"="0" "no-builtins" "no-trapping-math"="true" "stack-protector-buffer-size"="8" "target-features"="+64bit,+m" }
+attributes #3 = { mustprogress nofree norecurse nosync nounwind readnone willreturn "frame-pointer"="none" "min-legal-vector-width"="0" "no-builtins" "no-trapping-math"="true" "stack-protector-buffer-size"="8" "target-features"="+64bit,+m" }
+attributes #4 = { nobuiltin "no-builtins" }
+
+!llvm.module.flags = !{!0, !1, !2, !3, !4}
+!llvm.ident = !{!5}
+
+!0 = !{i32 1, !"wchar_size", i32 4}
+!1 = !{i32 1, !"target-abi", !"lp64"}
+!2 = !{i32 7, !"PIC Level", i32 2}
+!3 = !{i32 7, !"PIE Level", i32 2}
+!4 = !{i32 1, !"SmallDataLimit", i32 8}
+!5 = !{!"Debian clang version 14.0.6"}
+!6 = !{!7, !7, i64 0}
+!7 = !{!"long", !8, i64 0}
+!8 = !{!"omnipotent char", !9, i64 0}
+!9 = !{!"Simple C/C++ TBAA"}

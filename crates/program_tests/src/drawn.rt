@@ -1,0 +1,37 @@
+//! Calls over drawn events.
+use crate::program::{Given, NAMES, written};
+use crate::texts::SWAP;
+use std::test::Fail;
+
+/// The same draws give the same bytes, with the answer in front, whatever is drawn; versions are published only in steps.
+#[test]
+fn twice_the_same(rt: HostRuntime) -> Result<(), Fail> {
+    let rows = [
+        ("sim a.ll c.txt --steps 0", true),
+        ("sim a.ll c.txt --steps 0 --harts 16 --draw 5", true),
+        ("sim a.ll c.txt", false),
+        ("sim a.ll c.txt --draw 1 --steps 900", false),
+        ("sim a.ll c.txt --draw 2 --harts 2", false),
+        ("sim a.ll c.txt --draw 3 --harts 7 --steps 2000", false),
+        (
+            "sim --draw 18446744073709551615 a.ll c.txt --harts=16 --steps=20000",
+            false,
+        ),
+    ];
+    for (words, is_one) in rows {
+        let given = Given {
+            words,
+            names: NAMES,
+            module: SWAP,
+            calls: "@swap(i64 10, i64 3)\n",
+            failing: &[],
+        };
+        let once = written(&rt, rt.alloc(), &given)?;
+        let again = written(&rt, rt.alloc(), &given)?;
+        assert_eq!(rt; once.bytes(), again.bytes(), "{words}, twice");
+        assert!(rt; once.bytes().starts_with(b"@swap(10, 3) = 7\nversions "));
+        let one = b"@swap(10, 3) = 7\nversions 1\n".as_slice();
+        assert_eq!(rt; once.bytes() == one, is_one, "the versions of {words}");
+    }
+    Ok(())
+}
