@@ -1,5 +1,5 @@
 // Texts in the form that clang writes, and what is wrong with others.
-use crate::{TextRefusal, read_text};
+use ir_tree::{TextRefusal, read_text};
 use std::alloc::Global as Alloc;
 
 /// `f` and the number of functions where there is a tree; else `s` or `l` and the place.
