@@ -6,3 +6,4 @@ pub mod Opening
 pub mod Going
 pub mod Settled
 pub mod Firsts
+pub mod Words

@@ -1,5 +1,5 @@
 -- What a session comes to.
-use Rattle.std.specs.Prelude.{◌≡◌, ◌⊎◌, ℕ, ◌-◌, ◌^◌, ◌<◌, min, List, length, All, Bool}
+use Rattle.std.specs.Prelude.{◌≡◌, ◌⊎◌, ℕ, ◌+◌, ◌-◌, ◌^◌, ◌<◌, min, List, length, sum_by, All, Bool}
 use Rattle.ir_core.specs.Program.{Program}
 use Rattle.ir_meaning.specs.Meaning.{meaning}
 use Rattle.ir_meaning.specs.declared.calls.ListedCall.{ListedCall}
@@ -15,7 +15,7 @@ use Rattle.redirect_cells.specs.Opened.{words_of}
 use Rattle.jit_calls.specs.declared.settled.Settled.{Settled}
 use Rattle.jit_calls.specs.declared.settled.SymbolRow.{SymbolRow}
 use Rattle.jit_harts.specs.Runs.{AllRight, Each}
-use Rattle.jit_harts.specs.Settling.{column}
+use Rattle.jit_harts.specs.Settling.{IsEnteredRow, column}
 use Rattle.reopt_policy.specs.Marks.{level_for}
 use Rattle.jit_session.specs.Levels.{IsAmong, AreRefused}
 
@@ -31,14 +31,20 @@ pub record IsLinkedRow (shelf : Shelf) (k : ℕ) (row : SymbolRow) : Type 0 wher
   pub level : row.level ≡ version.level
   pub words : row.words ≡ version.words
 
--- Each call has its right answer; each hart has its row of counts, with a number for each function. Each function has its row: its
+-- the words of the rows' versions, a header for each with them
+abbrev pub words_of_rows : List SymbolRow → ℕ
+words_of_rows rows = sum_by (λ (row : SymbolRow). row.words + 1) rows
+
+-- Each call has its right answer; each hart has its row of counts, with a number for each function: where the evaluations of its calls end
+-- within their turns with a value, none, or for want of stack, how often they enter that function. Each function has its row: its
 -- entries are the sum of what the harts counted, its level is the one that the marks give for them or the job of giving it this level was
 -- refused, and level and words are those of its linked version. A job was refused as crowded only where `test` allows it. The words in
--- use are those of the versions that aren't given up, none of which is unlinked or pending, a header for each with them.
+-- use are those of the versions that aren't given up, none of which is unlinked or pending, a header for each with them: those of the rows.
 pub record IsSettled (program : Program) (calls : List ListedCall) (count functions : ℕ) (marks : List ℕ) (test : ℕ → ℕ → Bool) (s : Settled) : Type 0 where
   pub answers : AllRight program calls s.answers
   pub harts : length s.by_hart ≡ count
   pub by_hart : All (λ (row : List ℕ). length row ≡ functions) s.by_hart
+  pub entered : Each (IsEnteredRow program calls count) s.by_hart
   pub symbols : length s.rows ≡ functions
   pub entries : Each (λ k row. row.entries ≡ column k s.by_hart) s.rows
   pub levels : Each (λ k row. (row.level ≡ level_for marks row.entries) ⊎ IsAmong s.refused k (level_for marks row.entries)) s.rows
@@ -48,6 +54,7 @@ pub record IsSettled (program : Program) (calls : List ListedCall) (count functi
   pub none_pending : NonePending shelf.versions.items
   pub none_unlinked : NoneUnlinked shelf.versions.items
   pub used : s.used ≡ held_words shelf.versions.items
+  pub words : s.used ≡ words_of_rows s.rows
 
 -- why there is no session
 abbrev pub IsRefusal : ℕ → List Version → OpenRefusal → Type 0

@@ -7,11 +7,15 @@ use Rattle.jit_calls.specs.declared.settled.RefusedJob.{RefusedJob}
 use Rattle.ir_meaning.specs.declared.calls.Ended.{Ended}
 use Rattle.jit_harts.specs.declared.runner.Runner.{Runner}
 use Rattle.jit_harts.specs.Runs.{AllRight, Each, HasAnswered}
-use Rattle.jit_harts.specs.Settling.{seats_of}
+use Rattle.entry_counts.specs.declared.counts.Counts.{Counts}
+use Rattle.jit_harts.specs.Entries.{calls_of, AreEntries}
+use Rattle.jit_harts.specs.Settling.{AreRows, IsEnteredRow, seats_of}
+use Rattle.jit_harts.proofs.Parting.{entered_rows}
 use Rattle.jit_workers.proofs.Shelves.{collected_keeps}
 use Rattle.jit_session.specs.Levels.{AreRefused}
 use Rattle.jit_session.specs.Rows.{IsRowOf}
 use Rattle.jit_session.proofs.Settled.{levels, sums, linked}
+use Rattle.jit_session.proofs.Words.{collected-current, collected-long, held-rows}
 use Rattle.jit_session.proofs.Settles.{all_idle, all_harts, all_gone}
 use Rattle.jit_session.proofs.session.settle.Goals as goal
 
@@ -60,18 +64,32 @@ returns g c = λ program done.
     let long = c.fill_rows.ensures.count in
     let close = c.close.ensures in
     let keeps = collected_keeps (book_of keeper.desk.seat.seat.me.0) close.1 keeper.desk.shelf close.0 keeper.desk.seat.table.now.harts close.2 close.3 in
+    let own : AreRows functions harts c.part.new.by_hart.items = subst (λ (n : ℕ). AreRows n harts c.part.new.by_hart.items) symbols c.part.ensures.own in
+    let tally = c.args.all.counts.now in
+    let each : Each (λ h (r : Runner g.row.G.Denot). AreEntries program (calls_of calls c.args.table.now.harts h) functions r.bench.counts.seat.me.0.own) harts =
+    subst (λ (n : ℕ). Each (λ h (r : Runner g.row.G.Denot). AreEntries program (calls_of calls c.args.table.now.harts h) n r.bench.counts.seat.me.0.own) harts) c.requires.symbols (λ i d low. (done i d low).entered) in
+    let book = book_of keeper.desk.seat.seat.me.0 in
+    let current = collected-current book close.1 keeper.desk.shelf close.0 keeper.desk.seat.table.now.harts close.2 close.3 keeper.desk.linked_are in
+    let rest = c.from_vec-3.result in
+    let table : keeper.desk.seat.table.now ≡ c.args.table.now = ap (λ t. t.now) (c.settle_all.ensures.table ∙ c.gather.ensures.table) ∙ c.requires.keeper in
+    let all-symbols : length rest ≡ functions = ap length same ∙ long ∙ symbols in
+    let long-rows : length close.0.current.items ≡ length rest =
+    collected-long book close.1 keeper.desk.shelf close.0 keeper.desk.seat.table.now.harts close.2 close.3 ∙ keeper.desk.functions_are ∙ ap (λ (t : CodeTable). t.functions) table ∙ sym all-symbols in
+    let all-linked = linked keeper.desk.shelf entries c.symbols-symbols.result c.fill_rows.new.rows.items rest same long rows close.0 keeps in
     let refused : AreRefused test functions c.settle_all.new.refused.items = subst (λ (n : ℕ). AreRefused test n c.settle_all.new.refused.items) symbols c.settle_all.ensures.refused in record {
       answers = subst (λ (l : List Ended). AllRight program calls l) (sym c.from_vec.ensures) (c.gather_answers.ensures program here);
       harts = ap length counts ∙ c.part.ensures.count ∙ count;
       by_hart = subst (λ (l : List (List ℕ)). All (λ (row : List ℕ). length row ≡ functions) l) (sym counts)
           (subst (λ (n : ℕ). All (λ (row : List ℕ). length row ≡ n) c.part.new.by_hart.items) symbols c.part.ensures.rows);
-      symbols = ap length same ∙ long ∙ symbols;
+      entered = subst (λ (l : List (List ℕ)). Each (IsEnteredRow program calls c.args.table.now.harts) l) (sym counts) (entered_rows program calls c.args.table.now.harts functions harts c.part.new.by_hart.items own each);
+      symbols = all-symbols;
       entries = sums keeper.desk.shelf entries c.symbols-symbols.result c.fill_rows.new.rows.items c.from_vec-3.result same long rows c.part.new.by_hart.items c.from_vec-2.result counts c.part.ensures.joined;
       levels = levels keeper.desk.shelf entries c.symbols-symbols.result c.fill_rows.new.rows.items c.from_vec-3.result same long rows marks c.settle_all.new.refused.items c.from_vec-4.result jobs c.settle_all.ensures.levels;
       refused = subst (AreRefused test functions) (sym jobs) refused;
       shelf = close.0;
-      linked = linked keeper.desk.shelf entries c.symbols-symbols.result c.fill_rows.new.rows.items c.from_vec-3.result same long rows close.0 keeps;
+      linked = all-linked;
       none_pending = close.4;
       none_unlinked = close.5;
       used = close.6;
+      words = close.6 ∙ held-rows close.0 close.4 close.5 current rest long-rows all-linked;
     }
