@@ -103,84 +103,7 @@ refused-status line told before now (Uncalled refusal) none cause calm = inl ref
 refused-status line told before now (NoRoom needed had) none cause calm = absurd (no-room-refused line told needed had none cause.0)
 refused-status line told before now NoMemory none cause calm = inr refl
 
--- ---- what was written
-
-ran-read : (m c : List ℕ) (options : RunOptions) (program : Program) (list : List ListedCall) (settled : Settled) → HasRun m c options program list settled → AreRead m c options.room program list
-ran-read m c options program list settled has = record { is_module = has.is_module; image = has.image; is_calls = has.is_calls }
-
--- two texts of one module: the quick code fits, and it doesn't
-fits-twice : QuickNeedIsOne → (m c : List ℕ) (room code_words words : ℕ) (program : Program) → IsCheckedText m room program → Needs program words → words ≤ code_words
-    → TakeWords m c room (λ words. code_words < words) → ⊥
-fits-twice law m c room code_words words program is needs fits (other, list, more, are, needed, over) =
-    let same = one_program m room other program are.is_module is in
-    let one = law program more words (subst (λ (p : Program). Needs p more) same needed) needs in
-    let bad : ⊥ = omega (arith, one, fits, over) in bad
-
-ran-fits : QuickNeedIsOne → (m c : List ℕ) (options : RunOptions) (program : Program) (list : List ListedCall) (settled : Settled) → HasRun m c options program list settled
-    → TakeWords m c options.room (λ words. options.code_words < words) → ⊥
-ran-fits law m c options program list settled has all =
-    let session = has.session in
-    fits-twice law m c options.room options.code_words (words_needed session.versions) program has.is_module (session.versions, session.quick, refl) session.fits all
-
-sim-fits : QuickNeedIsOne → (m c : List ℕ) (options : SimOptions) (text : List ℕ) (b : Bool) → Simulated m c options text b → TakeWords m c options.room (λ words. options.code_words < words) → ⊥
-sim-fits law m c options text b is all =
-    let ran = is.ran in
-    fits-twice law m c options.room options.code_words (words_needed ran.versions) is.program is.is_module (ran.versions, ran.quick, refl) ran.fits all
-
-writes-fit : QuickNeedIsOne → (line : Line) (told : Told) (text : List ℕ) (b : Bool) → LineWrites line told text b → HasNoRoom line told → ⊥
-writes-fit law (run module_name calls_name options) told text b writes all =
-    let both = loaded told module_name calls_name (λ m c. Ran m c options text b) (λ m c. TakeWords m c options.room (λ words. options.code_words < words)) writes all in
-    let is = both.2 in
-    ran-fits law both.0 both.1 options is.program is.list is.settled is.has_run both.3
-writes-fit law (big calls options) told text b writes all = ran-fits law many.module_text (many.calls_text calls) options writes.program writes.list writes.settled writes.has_run all
-writes-fit law (eval module_name calls_name room) told text b writes all = all
-writes-fit law (sim module_name calls_name options) told text b writes all =
-    let both = loaded told module_name calls_name (λ m c. Simulated m c options text b) (λ m c. TakeWords m c options.room (λ words. options.code_words < words)) writes all in
-    sim-fits law both.0 both.1 options text b both.2 both.3
-writes-fit law (dump module_name level) told text b writes all = all
-
-writes-read : (line : Line) (told : Told) (text : List ℕ) (b : Bool) → LineWrites line told text b → IsRefused line told → ⊥
-writes-read (run module_name calls_name options) told text b writes none =
-    let both = loaded told module_name calls_name (λ m c. Ran m c options text b) (λ m c. AreSome m c options.room → ⊥) writes none in
-    let is = both.2 in
-    both.3 (is.program, is.list, ran-read both.0 both.1 options is.program is.list is.settled is.has_run)
-writes-read (big calls options) told text b writes none =
-    none (writes.program, writes.list, ran-read many.module_text (many.calls_text calls) options writes.program writes.list writes.settled writes.has_run)
-writes-read (eval module_name calls_name room) told text b writes none =
-    let both = loaded told module_name calls_name (λ m c. Evaluated m c room text b) (λ m c. AreSome m c room → ⊥) writes none in
-    let is = both.2 in
-    both.3 (is.program, is.list, record { is_module = is.is_module; image = is.image; is_calls = is.is_calls })
-writes-read (sim module_name calls_name options) told text b writes none =
-    let both = loaded told module_name calls_name (λ m c. Simulated m c options text b) (λ m c. AreSome m c options.room → ⊥) writes none in
-    let is = both.2 in
-    let ran = is.ran in
-    both.3 (is.program, is.list, record { is_module = is.is_module; image = (ran.image, ran.has_image); is_calls = is.is_calls })
-writes-read (dump module_name level) told text b writes none =
-    let same = same_text (told module_name) writes.0 none.0 writes.1 none.1 in
-    let is = writes.2 in
-    none.2 (is.program, subst (λ (m : List ℕ). IsCheckedText m dump_room is.program) same is.is_module)
-
--- ---- all of a status
-
-the-line : (words : List (List ℕ)) (told : Told) (text : List ℕ) (b : Bool) (line : Line) → command_of words ≡ Some line → Answers words told text b → LineWrites line told text b
-the-line words told text b line is answers =
-    let both : Some answers.0 ≡ Some line = sym answers.1 ∙ is in
-    let same : answers.0 ≡ line = cc in
-    subst (λ (l : Line). LineWrites l told text b) same answers.2
-
--- with status 0, 1 or 5 the command writes a text
-writes-some : (words : List (List ℕ)) (told : Told) (before now : ℕ) (sinks : Sinks) (status : ℕ) → Finished words told before now sinks status
-    → (line : Line) → command_of words ≡ Some line → (status ≡ 0) ⊎ (status ≡ 1) ⊎ (status ≡ 5) → (text : List ℕ) × (b : Bool) × LineWrites line told text b
-writes-some words told before now sinks status f line is (inl zero) = let w = f.answered zero in (w.0, false, the-line words told w.0 false line is w.1)
-writes-some words told before now sinks status f line is (inr (inl one)) = let w = f.unanswered one in (w.0, true, the-line words told w.0 true line is w.1)
-writes-some words told before now sinks status f line is (inr (inr five)) = let w = f.front five in (w.0, w.1, the-line words told w.0 w.1 line is w.2)
-
--- with any other it stops
-stops-so : (words : List (List ℕ)) (told : Told) (before now : ℕ) (sinks : Sinks) (status : ℕ) → Finished words told before now sinks status
-    → (line : Line) → command_of words ≡ Some line → status ≢ 0 → status ≢ 1 → status ≢ 5 → (stop : Stop) × (status_of stop ≡ status) × LineCause line told before now stop
-stops-so words told before now sinks status f line is zero one five =
-    let s = f.stop zero one five in
-    (s.0, s.1, subst (λ (found : Option Line). WordsCause found told before now s.0) is s.2)
+-- ---- what a status is
 
 -- which it is
 pub data Kind (status : ℕ) : Type 0 where
@@ -209,51 +132,131 @@ of-room : (status : ℕ) (stop : Stop) → status_of stop ≡ status → IsOfRoo
 of-room status stop is (inl memory) = inr (six status stop is memory)
 of-room status stop is (inr room) = inl (sym is ∙ ap status_of room.2)
 
-complete-by : QuickNeedIsOne → (words : List (List ℕ)) (told : Told) (before now : ℕ) (sinks : Sinks) (status : ℕ) → Finished words told before now sinks status
-    → (line : Line) → command_of words ≡ Some line → HasAll line told → (Rose before now → ⊥) → (Rose sinks.out_before sinks.out_now → ⊥) → Kind status
-    → (status ≡ 0) ⊎ (status ≡ 1) ⊎ (status ≡ 6)
-complete-by law words told before now sinks status f line is all calm quiet (Writes (inl zero)) = inl zero
-complete-by law words told before now sinks status f line is all calm quiet (Writes (inr (inl one))) = inr (inl one)
-complete-by law words told before now sinks status f line is all calm quiet (Writes (inr (inr five))) = absurd (quiet (f.write five))
-complete-by law words told before now sinks status f line is all calm quiet (Stops zero one five) =
-    let s = stops-so words told before now sinks status f line is zero one five in
-    inr (inr (six status s.0 s.1 (memory s.0 (caused line told before now s.0 s.2 calm))))
-  where
-    memory : (stop : Stop) → (stop ≡ NoMemory) ⊎ LineStops line told stop → stop ≡ NoMemory
-    memory stop (inl same) = same
-    memory stop (inr why) = line-fits law line told stop all why
+module _ (marks : List ℕ) where
+  -- ---- what was written
 
-crowded-by : QuickNeedIsOne → (words : List (List ℕ)) (told : Told) (before now : ℕ) (sinks : Sinks) (status : ℕ) → Finished words told before now sinks status
-    → (line : Line) → command_of words ≡ Some line → HasNoRoom line told → (Rose before now → ⊥) → Kind status → (status ≡ 7) ⊎ (status ≡ 6)
-crowded-by law words told before now sinks status f line is all calm (Writes which) =
-    let w = writes-some words told before now sinks status f line is which in
-    absurd (writes-fit law line told w.0 w.1 w.2 all)
-crowded-by law words told before now sinks status f line is all calm (Stops zero one five) =
-    let s = stops-so words told before now sinks status f line is zero one five in
-    of-room status s.0 s.1 (room s.0 (caused line told before now s.0 s.2 calm))
-  where
-    room : (stop : Stop) → (stop ≡ NoMemory) ⊎ LineStops line told stop → IsOfRoom stop
-    room stop (inl same) = inl same
-    room stop (inr why) = line-crowded line told stop all why
+  ran-read : (m c : List ℕ) (options : RunOptions) (program : Program) (list : List ListedCall) (settled : Settled) → HasRun marks m c options program list settled → AreRead m c options.room program list
+  ran-read m c options program list settled has = record { is_module = has.is_module; image = has.image; is_calls = has.is_calls }
 
-refused-by : (words : List (List ℕ)) (told : Told) (before now : ℕ) (sinks : Sinks) (status : ℕ) → Finished words told before now sinks status
-    → (line : Line) → command_of words ≡ Some line → IsRefused line told → (Rose before now → ⊥) → Kind status → (status ≡ 2) ⊎ (status ≡ 6)
-refused-by words told before now sinks status f line is none calm (Writes which) =
-    let w = writes-some words told before now sinks status f line is which in
-    absurd (writes-read line told w.0 w.1 w.2 none)
-refused-by words told before now sinks status f line is none calm (Stops zero one five) =
-    let s = stops-so words told before now sinks status f line is zero one five in
-    subst (λ (n : ℕ). (n ≡ 2) ⊎ (n ≡ 6)) s.1 (refused-status line told before now s.0 none s.2 calm)
+  -- two texts of one module: the quick code fits, and it doesn't
+  fits-twice : QuickNeedIsOne → (m c : List ℕ) (room code_words words : ℕ) (program : Program) → IsCheckedText m room program → Needs program words → words ≤ code_words
+      → TakeWords m c room (λ words. code_words < words) → ⊥
+  fits-twice law m c room code_words words program is needs fits (other, list, more, are, needed, over) =
+      let same = one_program m room other program are.is_module is in
+      let one = law program more words (subst (λ (p : Program). Needs p more) same needed) needs in
+      let bad : ⊥ = omega (arith, one, fits, over) in bad
 
-pub must : QuickNeedIsOne → (words : List (List ℕ)) (told : Told) (before now : ℕ) (sinks : Sinks) (status : ℕ) → Finished words told before now sinks status → Must words told before now sinks status
-must law words told before now sinks status f = record {
-  complete = λ line is all calm quiet. complete-by law words told before now sinks status f line is all calm quiet (kind status);
-  crowded = λ line is all calm. crowded-by law words told before now sinks status f line is all calm (kind status);
-  refused = λ line is none calm. refused-by words told before now sinks status f line is none calm (kind status);
-}
+  ran-fits : QuickNeedIsOne → (m c : List ℕ) (options : RunOptions) (program : Program) (list : List ListedCall) (settled : Settled) → HasRun marks m c options program list settled
+      → TakeWords m c options.room (λ words. options.code_words < words) → ⊥
+  ran-fits law m c options program list settled has all =
+      let session = has.session in
+      fits-twice law m c options.room options.code_words (words_needed session.versions) program has.is_module (session.versions, session.quick, refl) session.fits all
 
--- the same of a status that may not be there
-pub must_some : QuickNeedIsOne → (words : List (List ℕ)) (told : Told) (before now : ℕ) (sinks : Sinks) (r : Option ℕ) → IfSome r (λ (status : ℕ). Finished words told before now sinks status)
-    → IfSome r (λ (status : ℕ). Must words told before now sinks status)
-must_some law words told before now sinks None f = tt
-must_some law words told before now sinks (Some status) f = must law words told before now sinks status f
+  sim-fits : QuickNeedIsOne → (m c : List ℕ) (options : SimOptions) (text : List ℕ) (b : Bool) → Simulated m c options text b → TakeWords m c options.room (λ words. options.code_words < words) → ⊥
+  sim-fits law m c options text b is all =
+      let ran = is.ran in
+      fits-twice law m c options.room options.code_words (words_needed ran.versions) is.program is.is_module (ran.versions, ran.quick, refl) ran.fits all
+
+  writes-fit : QuickNeedIsOne → (line : Line) (told : Told) (text : List ℕ) (b : Bool) → LineWrites marks line told text b → HasNoRoom line told → ⊥
+  writes-fit law (run module_name calls_name options) told text b writes all =
+      let both = loaded told module_name calls_name (λ m c. Ran marks m c options text b) (λ m c. TakeWords m c options.room (λ words. options.code_words < words)) writes all in
+      let is = both.2 in
+      ran-fits law both.0 both.1 options is.program is.list is.settled is.has_run both.3
+  writes-fit law (big calls options) told text b writes all = ran-fits law many.module_text (many.calls_text calls) options writes.program writes.list writes.settled writes.has_run all
+  writes-fit law (eval module_name calls_name room) told text b writes all = all
+  writes-fit law (sim module_name calls_name options) told text b writes all =
+      let both = loaded told module_name calls_name (λ m c. Simulated m c options text b) (λ m c. TakeWords m c options.room (λ words. options.code_words < words)) writes all in
+      sim-fits law both.0 both.1 options text b both.2 both.3
+  writes-fit law (dump module_name level) told text b writes all = all
+
+  writes-read : (line : Line) (told : Told) (text : List ℕ) (b : Bool) → LineWrites marks line told text b → IsRefused line told → ⊥
+  writes-read (run module_name calls_name options) told text b writes none =
+      let both = loaded told module_name calls_name (λ m c. Ran marks m c options text b) (λ m c. AreSome m c options.room → ⊥) writes none in
+      let is = both.2 in
+      both.3 (is.program, is.list, ran-read both.0 both.1 options is.program is.list is.settled is.has_run)
+  writes-read (big calls options) told text b writes none =
+      none (writes.program, writes.list, ran-read many.module_text (many.calls_text calls) options writes.program writes.list writes.settled writes.has_run)
+  writes-read (eval module_name calls_name room) told text b writes none =
+      let both = loaded told module_name calls_name (λ m c. Evaluated m c room text b) (λ m c. AreSome m c room → ⊥) writes none in
+      let is = both.2 in
+      both.3 (is.program, is.list, record { is_module = is.is_module; image = is.image; is_calls = is.is_calls })
+  writes-read (sim module_name calls_name options) told text b writes none =
+      let both = loaded told module_name calls_name (λ m c. Simulated m c options text b) (λ m c. AreSome m c options.room → ⊥) writes none in
+      let is = both.2 in
+      let ran = is.ran in
+      both.3 (is.program, is.list, record { is_module = is.is_module; image = (ran.image, ran.has_image); is_calls = is.is_calls })
+  writes-read (dump module_name level) told text b writes none =
+      let same = same_text (told module_name) writes.0 none.0 writes.1 none.1 in
+      let is = writes.2 in
+      none.2 (is.program, subst (λ (m : List ℕ). IsCheckedText m dump_room is.program) same is.is_module)
+
+  -- ---- all of a status
+
+  the-line : (words : List (List ℕ)) (told : Told) (text : List ℕ) (b : Bool) (line : Line) → command_of words ≡ Some line → Answers marks words told text b → LineWrites marks line told text b
+  the-line words told text b line is answers =
+      let both : Some answers.0 ≡ Some line = sym answers.1 ∙ is in
+      let same : answers.0 ≡ line = cc in
+      subst (λ (l : Line). LineWrites marks l told text b) same answers.2
+
+  -- with status 0, 1 or 5 the command writes a text
+  writes-some : (words : List (List ℕ)) (told : Told) (before now : ℕ) (sinks : Sinks) (status : ℕ) → Finished marks words told before now sinks status
+      → (line : Line) → command_of words ≡ Some line → (status ≡ 0) ⊎ (status ≡ 1) ⊎ (status ≡ 5) → (text : List ℕ) × (b : Bool) × LineWrites marks line told text b
+  writes-some words told before now sinks status f line is (inl zero) = let w = f.answered zero in (w.0, false, the-line words told w.0 false line is w.1)
+  writes-some words told before now sinks status f line is (inr (inl one)) = let w = f.unanswered one in (w.0, true, the-line words told w.0 true line is w.1)
+  writes-some words told before now sinks status f line is (inr (inr five)) = let w = f.front five in (w.0, w.1, the-line words told w.0 w.1 line is w.2)
+
+  -- with any other it stops
+  stops-so : (words : List (List ℕ)) (told : Told) (before now : ℕ) (sinks : Sinks) (status : ℕ) → Finished marks words told before now sinks status
+      → (line : Line) → command_of words ≡ Some line → status ≢ 0 → status ≢ 1 → status ≢ 5 → (stop : Stop) × (status_of stop ≡ status) × LineCause line told before now stop
+  stops-so words told before now sinks status f line is zero one five =
+      let s = f.stop zero one five in
+      (s.0, s.1, subst (λ (found : Option Line). WordsCause found told before now s.0) is s.2)
+
+  complete-by : QuickNeedIsOne → (words : List (List ℕ)) (told : Told) (before now : ℕ) (sinks : Sinks) (status : ℕ) → Finished marks words told before now sinks status
+      → (line : Line) → command_of words ≡ Some line → HasAll line told → (Rose before now → ⊥) → (Rose sinks.out_before sinks.out_now → ⊥) → Kind status
+      → (status ≡ 0) ⊎ (status ≡ 1) ⊎ (status ≡ 6)
+  complete-by law words told before now sinks status f line is all calm quiet (Writes (inl zero)) = inl zero
+  complete-by law words told before now sinks status f line is all calm quiet (Writes (inr (inl one))) = inr (inl one)
+  complete-by law words told before now sinks status f line is all calm quiet (Writes (inr (inr five))) = absurd (quiet (f.write five))
+  complete-by law words told before now sinks status f line is all calm quiet (Stops zero one five) =
+      let s = stops-so words told before now sinks status f line is zero one five in
+      inr (inr (six status s.0 s.1 (memory s.0 (caused line told before now s.0 s.2 calm))))
+    where
+      memory : (stop : Stop) → (stop ≡ NoMemory) ⊎ LineStops line told stop → stop ≡ NoMemory
+      memory stop (inl same) = same
+      memory stop (inr why) = line-fits law line told stop all why
+
+  crowded-by : QuickNeedIsOne → (words : List (List ℕ)) (told : Told) (before now : ℕ) (sinks : Sinks) (status : ℕ) → Finished marks words told before now sinks status
+      → (line : Line) → command_of words ≡ Some line → HasNoRoom line told → (Rose before now → ⊥) → Kind status → (status ≡ 7) ⊎ (status ≡ 6)
+  crowded-by law words told before now sinks status f line is all calm (Writes which) =
+      let w = writes-some words told before now sinks status f line is which in
+      absurd (writes-fit law line told w.0 w.1 w.2 all)
+  crowded-by law words told before now sinks status f line is all calm (Stops zero one five) =
+      let s = stops-so words told before now sinks status f line is zero one five in
+      of-room status s.0 s.1 (room s.0 (caused line told before now s.0 s.2 calm))
+    where
+      room : (stop : Stop) → (stop ≡ NoMemory) ⊎ LineStops line told stop → IsOfRoom stop
+      room stop (inl same) = inl same
+      room stop (inr why) = line-crowded line told stop all why
+
+  refused-by : (words : List (List ℕ)) (told : Told) (before now : ℕ) (sinks : Sinks) (status : ℕ) → Finished marks words told before now sinks status
+      → (line : Line) → command_of words ≡ Some line → IsRefused line told → (Rose before now → ⊥) → Kind status → (status ≡ 2) ⊎ (status ≡ 6)
+  refused-by words told before now sinks status f line is none calm (Writes which) =
+      let w = writes-some words told before now sinks status f line is which in
+      absurd (writes-read line told w.0 w.1 w.2 none)
+  refused-by words told before now sinks status f line is none calm (Stops zero one five) =
+      let s = stops-so words told before now sinks status f line is zero one five in
+      subst (λ (n : ℕ). (n ≡ 2) ⊎ (n ≡ 6)) s.1 (refused-status line told before now s.0 none s.2 calm)
+
+  pub must : QuickNeedIsOne → (words : List (List ℕ)) (told : Told) (before now : ℕ) (sinks : Sinks) (status : ℕ) → Finished marks words told before now sinks status → Must words told before now sinks status
+  must law words told before now sinks status f = record {
+    complete = λ line is all calm quiet. complete-by law words told before now sinks status f line is all calm quiet (kind status);
+    crowded = λ line is all calm. crowded-by law words told before now sinks status f line is all calm (kind status);
+    refused = λ line is none calm. refused-by words told before now sinks status f line is none calm (kind status);
+  }
+
+  -- the same of a status that may not be there
+  pub must_some : QuickNeedIsOne → (words : List (List ℕ)) (told : Told) (before now : ℕ) (sinks : Sinks) (r : Option ℕ) → IfSome r (λ (status : ℕ). Finished marks words told before now sinks status)
+      → IfSome r (λ (status : ℕ). Must words told before now sinks status)
+  must_some law words told before now sinks None f = tt
+  must_some law words told before now sinks (Some status) f = must law words told before now sinks status f

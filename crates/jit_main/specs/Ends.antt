@@ -37,14 +37,15 @@ abbrev pub OfTexts : (List ℕ → Option (List ℕ)) → List ℕ → List ℕ 
 OfTexts told module_name calls_name P =
     (module_text calls_text : List ℕ) × AreTexts told module_name calls_name module_text calls_text × P module_text calls_text
 
--- this is the text that a command writes for what its files have, and whether a call in it is unanswered
-abbrev pub LineWrites : Line → (List ℕ → Option (List ℕ)) → List ℕ → Bool → Type 0
-LineWrites (run module_name calls_name options) told text unanswered =
-    OfTexts told module_name calls_name (λ m c. Ran m c options text unanswered)
-LineWrites (big calls options) told text unanswered = Counted calls options text unanswered
-LineWrites (eval module_name calls_name room) told text unanswered = OfTexts told module_name calls_name (λ m c. Evaluated m c room text unanswered)
-LineWrites (sim module_name calls_name options) told text unanswered = OfTexts told module_name calls_name (λ m c. Simulated m c options text unanswered)
-LineWrites (dump module_name level) told text unanswered =
+-- this is the text that a command writes for what its files have, and whether a call in it is unanswered; the marks are those of the policy
+-- of its session
+abbrev pub LineWrites : List ℕ → Line → (List ℕ → Option (List ℕ)) → List ℕ → Bool → Type 0
+LineWrites marks (run module_name calls_name options) told text unanswered =
+    OfTexts told module_name calls_name (λ m c. Ran marks m c options text unanswered)
+LineWrites marks (big calls options) told text unanswered = Counted marks calls options text unanswered
+LineWrites marks (eval module_name calls_name room) told text unanswered = OfTexts told module_name calls_name (λ m c. Evaluated m c room text unanswered)
+LineWrites marks (sim module_name calls_name options) told text unanswered = OfTexts told module_name calls_name (λ m c. Simulated m c options text unanswered)
+LineWrites marks (dump module_name level) told text unanswered =
     (module_text : List ℕ) × IsText (told module_name) module_text × Dumped module_text level text × (unanswered ≡ false)
 
 -- what a command's files have stops the program so
@@ -74,8 +75,8 @@ WordsCause None told before now stop = ⊥
 WordsCause (Some line) told before now stop = LineCause line told before now stop
 
 -- the words are a command, and this is the text that it writes for what its files have
-abbrev pub Answers : List (List ℕ) → (List ℕ → Option (List ℕ)) → List ℕ → Bool → Type 0
-Answers words told text unanswered = (line : Line) × (command_of words ≡ Some line) × LineWrites line told text unanswered
+abbrev pub Answers : List ℕ → List (List ℕ) → (List ℕ → Option (List ℕ)) → List ℕ → Bool → Type 0
+Answers marks words told text unanswered = (line : Line) × (command_of words ≡ Some line) × LineWrites marks line told text unanswered
 
 -- the words are a command, and what its files have stops the program so
 abbrev pub Stops : List (List ℕ) → (List ℕ → Option (List ℕ)) → Stop → Type 0
@@ -179,11 +180,11 @@ pub record Written (text : List ℕ) (unanswered : Bool) (status : ℕ) (sinks :
   pub wrote : Wrote text unanswered sinks.out_old sinks.out_new sinks.out_before sinks.out_now status
   pub quiet : sinks.err_new ≡ sinks.err_old
 
--- what a status says of the run of these words over these files, with the counts of their faults before and after
-pub record Finished (words : List (List ℕ)) (told : List ℕ → Option (List ℕ)) (before now : ℕ) (sinks : Sinks) (status : ℕ) : Type 0 where
-  pub answered : status ≡ 0 → (text : List ℕ) × Answers words told text false × Took sinks.out_old sinks.out_new text
-  pub unanswered : status ≡ 1 → (text : List ℕ) × Answers words told text true × Took sinks.out_old sinks.out_new text
-  pub front : status ≡ 5 → (text : List ℕ) × (b : Bool) × Answers words told text b × TookFront sinks.out_old sinks.out_new text
+-- what a status says of the run of these words over these files, by a policy of these marks, with the counts of their faults before and after
+pub record Finished (marks : List ℕ) (words : List (List ℕ)) (told : List ℕ → Option (List ℕ)) (before now : ℕ) (sinks : Sinks) (status : ℕ) : Type 0 where
+  pub answered : status ≡ 0 → (text : List ℕ) × Answers marks words told text false × Took sinks.out_old sinks.out_new text
+  pub unanswered : status ≡ 1 → (text : List ℕ) × Answers marks words told text true × Took sinks.out_old sinks.out_new text
+  pub front : status ≡ 5 → (text : List ℕ) × (b : Bool) × Answers marks words told text b × TookFront sinks.out_old sinks.out_new text
   pub write : status ≡ 5 → Rose sinks.out_before sinks.out_now
   pub write_told : sinks.out_before < sinks.out_now → status ≡ 5
   pub quiet : (status ≡ 0) ⊎ (status ≡ 1) ⊎ (status ≡ 5) → sinks.err_new ≡ sinks.err_old

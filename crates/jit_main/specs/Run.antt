@@ -1,5 +1,5 @@
 -- A run of the calls of a module: what it writes, and why there is none.
-use Rattle.std.specs.Prelude.{◌≡◌, ℕ, ◌+◌, ◌-◌, ◌^◌, ◌<◌, ◌≤◌, min, Bool, List, [], ◌++◌, length, Ok, Err, if◌then◌else◌}
+use Rattle.std.specs.Prelude.{◌≡◌, ℕ, ◌+◌, ◌-◌, ◌^◌, ◌<◌, ◌≤◌, min, Bool, false, List, [], ◌++◌, length, Ok, Err, if◌then◌else◌}
 use Rattle.ir_core.specs.declared.program.Module.{Module}
 use Rattle.ir_core.specs.Program.{Program}
 use Rattle.ir_reader.specs.Reads.{Reads, Refuses as ShowsFault, IsMemoryRefusal}
@@ -41,38 +41,41 @@ IsImageFor program image = IsFirstImage program.module_.globals image × (image.
 abbrev pub HasImage : Program → Type 0
 HasImage program = (image : Image) × IsImageFor program image
 
--- the quick code of a module fits the code words, and a session of its harts came to this over it: each answer is right
-pub record HasSettled (program : Program) (list : List ListedCall) (options : RunOptions) (settled : Settled) : Type 0 where
+-- no job of the quick compiler is refused as crowded
+abbrev pub never : ℕ → ℕ → Bool
+never symbol level = false
+
+-- the quick code of a module fits the code words, and a session of its harts, whose policy has these marks, came to this over it: each
+-- answer is right
+pub record HasSettled (marks : List ℕ) (program : Program) (list : List ListedCall) (options : RunOptions) (settled : Settled) : Type 0 where
   pub versions : List Version
   pub quick : AreQuick program versions
   pub fits : words_needed versions ≤ options.code_words
-  pub marks : List ℕ
-  pub test : ℕ → ℕ → Bool
-  pub comes : IsSettled program list options.harts (length program.module_.functions) marks test settled
+  pub comes : IsSettled program list options.harts (length program.module_.functions) marks never settled
 
 -- the texts are those of a module and its list of calls, and a session of these calls came to this
-pub record HasRun (module_text calls_text : List ℕ) (options : RunOptions) (program : Program) (list : List ListedCall) (settled : Settled) : Type 0 where
+pub record HasRun (marks : List ℕ) (module_text calls_text : List ℕ) (options : RunOptions) (program : Program) (list : List ListedCall) (settled : Settled) : Type 0 where
   pub is_module : IsCheckedText module_text options.room program
   pub image : HasImage program
   pub is_calls : calls_of program.module_ calls_text ≡ Ok list
-  pub session : HasSettled program list options settled
+  pub session : HasSettled marks program list options settled
 
 -- the text has a line with the right answer to each call, and the rows behind them where they are asked for
-pub record Ran (module_text calls_text : List ℕ) (options : RunOptions) (text : List ℕ) (unanswered : Bool) : Type 0 where
+pub record Ran (marks : List ℕ) (module_text calls_text : List ℕ) (options : RunOptions) (text : List ℕ) (unanswered : Bool) : Type 0 where
   pub program : Program
   pub list : List ListedCall
   pub settled : Settled
-  pub has_run : HasRun module_text calls_text options program list settled
+  pub has_run : HasRun marks module_text calls_text options program list settled
   pub lines : text ≡ report_lines program.module_.functions list settled options.report
   pub status : unanswered ≡ any_unanswered settled.answers
 
 -- the text is the line of the counts of right answers to so many calls of the module of many calls, and the rows behind it where they
 -- are asked for
-pub record Counted (calls : ℕ) (options : RunOptions) (text : List ℕ) (unanswered : Bool) : Type 0 where
+pub record Counted (marks : List ℕ) (calls : ℕ) (options : RunOptions) (text : List ℕ) (unanswered : Bool) : Type 0 where
   pub program : Program
   pub list : List ListedCall
   pub settled : Settled
-  pub has_run : HasRun many.module_text (many.calls_text calls) options program list settled
+  pub has_run : HasRun marks many.module_text (many.calls_text calls) options program list settled
   pub line : text ≡ counts_line settled.answers ++ (if options.report then rows_text program.module_.functions settled else [])
   pub status : unanswered ≡ any_unanswered settled.answers
 

@@ -43,7 +43,7 @@ pub fn big_text<'a, R: Threads + Wait + Sync, P: ReoptPolicy + Send, G: Gate + S
 ) -> Result<Answered, Stop<'a>>
     requires calls { IsBetween 1 65536 calls }
     requires options { AreRunOptions options }
-    ensures text { IfOk result (λ a. Counted calls options a.text.items a.is_unanswered) }
+    ensures text { IfOk result (λ a. Counted (P.marks policy) calls options a.text.items a.is_unanswered) }
     ensures stop { IfErr result (λ stop. RunStop many.module_text (many.calls_text calls) options.room options.code_words stop) }
 {
     let (module_text, calls_text) = match generate(alloc, calls) {

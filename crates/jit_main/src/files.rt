@@ -70,7 +70,7 @@ pub fn run_files<'a, R: Threads + Wait + Sync, P: ReoptPolicy + Send, F: Files, 
     gate: &G,
 ) -> Result<Answered, Stop<'a>>
     requires { AreRunOptions options }
-    ensures text { IfOk result (λ a. LineWrites (run module_name.now calls_name.now options) (F.told files.old) a.text.items a.is_unanswered) }
+    ensures text { IfOk result (λ a. LineWrites (P.marks policy) (run module_name.now calls_name.now options) (F.told files.old) a.text.items a.is_unanswered) }
     ensures told { (name : List ℕ) → F.told files.new name ≡ F.told files.old name }
     ensures kept { OnOk result (F.faults files.new ≡ F.faults files.old) }
     ensures stop { IfErr result (λ stop. LineCause (run module_name.now calls_name.now options) (F.told files.old) (F.faults files.old) (F.faults files.new) stop) }
@@ -94,7 +94,7 @@ pub fn eval_files<'a, F: Files>(
     room: u64,
 ) -> Result<Answered, Stop<'a>>
     requires { IsRoom room }
-    ensures text { IfOk result (λ a. LineWrites (eval module_name.now calls_name.now room) (F.told files.old) a.text.items a.is_unanswered) }
+    ensures text { (marks : List ℕ) → IfOk result (λ a. LineWrites marks (eval module_name.now calls_name.now room) (F.told files.old) a.text.items a.is_unanswered) }
     ensures told { (name : List ℕ) → F.told files.new name ≡ F.told files.old name }
     ensures kept { OnOk result (F.faults files.new ≡ F.faults files.old) }
     ensures stop { IfErr result (λ stop. LineCause (eval module_name.now calls_name.now room) (F.told files.old) (F.faults files.old) (F.faults files.new) stop) }
@@ -118,7 +118,7 @@ pub fn sim_files<'a, F: Files>(
     options: SimOptions,
 ) -> Result<Answered, Stop<'a>>
     requires { AreSimOptions options }
-    ensures text { IfOk result (λ a. LineWrites (sim module_name.now calls_name.now options) (F.told files.old) a.text.items a.is_unanswered) }
+    ensures text { (marks : List ℕ) → IfOk result (λ a. LineWrites marks (sim module_name.now calls_name.now options) (F.told files.old) a.text.items a.is_unanswered) }
     ensures told { (name : List ℕ) → F.told files.new name ≡ F.told files.old name }
     ensures kept { OnOk result (F.faults files.new ≡ F.faults files.old) }
     ensures stop { IfErr result (λ stop. LineCause (sim module_name.now calls_name.now options) (F.told files.old) (F.faults files.old) (F.faults files.new) stop) }
@@ -139,7 +139,7 @@ pub fn dump_file<'a, F: Files>(
     files: &mut F,
     module_name: &'a str,
 ) -> Result<Answered, Stop<'a>>
-    ensures text { IfOk result (λ a. LineWrites (dump module_name.now 1) (F.told files.old) a.text.items a.is_unanswered) }
+    ensures text { (marks : List ℕ) → IfOk result (λ a. LineWrites marks (dump module_name.now 1) (F.told files.old) a.text.items a.is_unanswered) }
     ensures told { (name : List ℕ) → F.told files.new name ≡ F.told files.old name }
     ensures kept { OnOk result (F.faults files.new ≡ F.faults files.old) }
     ensures stop { IfErr result (λ stop. LineCause (dump module_name.now 1) (F.told files.old) (F.faults files.old) (F.faults files.new) stop) }

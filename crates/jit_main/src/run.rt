@@ -59,7 +59,7 @@ fn settled_by<'a, R: Threads + Wait + Sync, P: ReoptPolicy + Send, G: Gate + Syn
     requires calls { AllListed checked.now.module_.functions calls.now }
     requires few { length calls.now ≤ 65536 }
     requires options { AreRunOptions options }
-    ensures settled { IfOk result (HasSettled checked.now calls.now options) }
+    ensures settled { IfOk result (HasSettled (P.marks policy) checked.now calls.now options) }
     ensures stop { IfErr result (QuickStop checked.now options.code_words) }
 {
     let versions = match quick_versions(alloc, checked) {
@@ -97,7 +97,7 @@ pub fn session_of<'a, R: Threads + Wait + Sync, P: ReoptPolicy + Send, G: Gate +
     gate: &G,
 ) -> Result<Session, Stop<'a>>
     requires { AreRunOptions options }
-    ensures session { IfOk result (λ s. HasRun module_text.now calls_text.now options s.checked s.calls s.settled) }
+    ensures session { IfOk result (λ s. HasRun (P.marks policy) module_text.now calls_text.now options s.checked s.calls s.settled) }
     ensures stop { IfErr result (λ stop. RunStop module_text.now calls_text.now options.room options.code_words stop) }
 {
     let Front {
@@ -157,7 +157,7 @@ pub fn run_texts<'a, R: Threads + Wait + Sync, P: ReoptPolicy + Send, G: Gate + 
     gate: &G,
 ) -> Result<Answered, Stop<'a>>
     requires { AreRunOptions options }
-    ensures text { IfOk result (λ a. Ran module_text.now calls_text.now options a.text.items a.is_unanswered) }
+    ensures text { IfOk result (λ a. Ran (P.marks policy) module_text.now calls_text.now options a.text.items a.is_unanswered) }
     ensures stop { IfErr result (λ stop. RunStop module_text.now calls_text.now options.room options.code_words stop) }
 {
     let session = match session_of(rt, alloc, module_text, calls_text, options, policy, gate) {

@@ -1,4 +1,4 @@
-ghost use Rattle.std.specs.Prelude.{◌≡◌, ◌≢◌, ◌<◌, ◌⊎◌, List, ℕ, Bool, true, false, Some, None, IfOk, OnOk, IfErr, IfSome};
+ghost use Rattle.std.specs.Prelude.{◌≡◌, ◌≢◌, ◌<◌, ◌⊎◌, List, [], ℕ, Bool, true, false, Some, None, IfOk, OnOk, IfErr, IfSome};
 ghost use Rattle.rj_io.specs.Faults.{Rose};
 ghost use Rattle.rj_io.specs.Sinks.{Took};
 ghost use Rattle.command_words.specs.Commands.{words_of, line_of, command_of};
@@ -58,7 +58,7 @@ fn serial_writes<'a, F: Files>(
 ) -> Result<Answered, Stop<'a>>
     requires range { IsInRange line }
     requires serial { is_run (Some (line_of line)) ≡ false }
-    ensures text { IfOk result (λ a. LineWrites (line_of line.entry) (F.told files.old) a.text.items a.is_unanswered) }
+    ensures text { (marks : List ℕ) → IfOk result (λ a. LineWrites marks (line_of line.entry) (F.told files.old) a.text.items a.is_unanswered) }
     ensures told { (name : List ℕ) → F.told files.new name ≡ F.told files.old name }
     ensures kept { OnOk result (F.faults files.new ≡ F.faults files.old) }
     ensures stop { IfErr result (λ stop. LineCause (line_of line.entry) (F.told files.old) (F.faults files.old) (F.faults files.new) stop) }
@@ -90,7 +90,7 @@ fn writes<'a, R: Threads + Wait + Sync, P: ReoptPolicy + Send, F: Files, G: Gate
     gate: &G,
 ) -> Result<Answered, Stop<'a>>
     requires { IsInRange line }
-    ensures text { IfOk result (λ a. LineWrites (line_of line.entry) (F.told files.old) a.text.items a.is_unanswered) }
+    ensures text { IfOk result (λ a. LineWrites (P.marks policy) (line_of line.entry) (F.told files.old) a.text.items a.is_unanswered) }
     ensures told { (name : List ℕ) → F.told files.new name ≡ F.told files.old name }
     ensures kept { OnOk result (F.faults files.new ≡ F.faults files.old) }
     ensures stop { IfErr result (λ stop. LineCause (line_of line.entry) (F.told files.old) (F.faults files.old) (F.faults files.new) stop) }
@@ -126,7 +126,7 @@ fn alone<F: Files, S: Sink, T: Sink>(
     ensures none { result ≡ None → is_run (command_of (words_of words.now)) ≡ true }
     ensures none_told { is_run (command_of (words_of words.now)) ≡ true → (result ≡ None) ⊎ (result ≡ Some 6) }
     ensures kept { result ≡ None → (files.new ≡ files.old) × (out.new ≡ out.old) × (err.new ≡ err.old) }
-    ensures finished { IfSome result (λ status. Finished (words_of words.now) (F.told files.old) (F.faults files.old) (F.faults files.new) (record { out_old = S.taken out.old; out_new = S.taken out.new; out_before = S.faults out.old; out_now = S.faults out.new; err_old = T.taken err.old; err_new = T.taken err.new; err_before = T.faults err.old; err_now = T.faults err.new }) status) }
+    ensures finished { IfSome result (λ status. Finished [] (words_of words.now) (F.told files.old) (F.faults files.old) (F.faults files.new) (record { out_old = S.taken out.old; out_new = S.taken out.new; out_before = S.faults out.old; out_now = S.faults out.new; err_old = T.taken err.old; err_new = T.taken err.new; err_before = T.faults err.old; err_now = T.faults err.new }) status) }
     ensures told { (name : List ℕ) → F.told files.new name ≡ F.told files.old name }
 {
     match read_words(alloc, words) {
@@ -155,7 +155,7 @@ pub fn serial<F: Files, S: Sink, T: Sink>(
     ensures none_told { is_run (command_of (words_of words.now)) ≡ true → (result ≡ None) ⊎ (result ≡ Some 6) }
     ensures kept { result ≡ None → (files.new ≡ files.old) × (out.new ≡ out.old) × (err.new ≡ err.old) }
     ensures must { IfSome result (λ status. Must (words_of words.now) (F.told files.old) (F.faults files.old) (F.faults files.new) (record { out_old = S.taken out.old; out_new = S.taken out.new; out_before = S.faults out.old; out_now = S.faults out.new; err_old = T.taken err.old; err_new = T.taken err.new; err_before = T.faults err.old; err_now = T.faults err.new }) status) }
-    ensures finished { IfSome result (λ status. Finished (words_of words.now) (F.told files.old) (F.faults files.old) (F.faults files.new) (record { out_old = S.taken out.old; out_new = S.taken out.new; out_before = S.faults out.old; out_now = S.faults out.new; err_old = T.taken err.old; err_new = T.taken err.new; err_before = T.faults err.old; err_now = T.faults err.new }) status) }
+    ensures finished { IfSome result (λ status. Finished [] (words_of words.now) (F.told files.old) (F.faults files.old) (F.faults files.new) (record { out_old = S.taken out.old; out_new = S.taken out.new; out_before = S.faults out.old; out_now = S.faults out.new; err_old = T.taken err.old; err_new = T.taken err.new; err_before = T.faults err.old; err_now = T.faults err.new }) status) }
     ensures told { (name : List ℕ) → F.told files.new name ≡ F.told files.old name }
 {
     quick_need_is_one();
@@ -180,7 +180,7 @@ fn program<
     policy: P,
     gate: &G,
 ) -> u8
-    ensures finished { Finished (words_of words.now) (F.told files.old) (F.faults files.old) (F.faults files.new) (record { out_old = S.taken out.old; out_new = S.taken out.new; out_before = S.faults out.old; out_now = S.faults out.new; err_old = T.taken err.old; err_new = T.taken err.new; err_before = T.faults err.old; err_now = T.faults err.new }) result }
+    ensures finished { Finished (P.marks policy) (words_of words.now) (F.told files.old) (F.faults files.old) (F.faults files.new) (record { out_old = S.taken out.old; out_new = S.taken out.new; out_before = S.faults out.old; out_now = S.faults out.new; err_old = T.taken err.old; err_new = T.taken err.new; err_before = T.faults err.old; err_now = T.faults err.new }) result }
     ensures told { (name : List ℕ) → F.told files.new name ≡ F.told files.old name }
 {
     match read_words(alloc, words) {
@@ -213,10 +213,10 @@ pub fn reopt<
     gate: &G,
 ) -> u8
     // 0 and 1: `out` took one line per call with its answer, and 1 where one is no value and not void; or one part per function.
-    ensures answered { result ≡ 0 → (text : List ℕ) × Answers (words_of words.now) (F.told files.old) text false × Took (S.taken out.old) (S.taken out.new) text }
-    ensures unanswered { result ≡ 1 → (text : List ℕ) × Answers (words_of words.now) (F.told files.old) text true × Took (S.taken out.old) (S.taken out.new) text }
+    ensures answered { result ≡ 0 → (text : List ℕ) × Answers (P.marks policy) (words_of words.now) (F.told files.old) text false × Took (S.taken out.old) (S.taken out.new) text }
+    ensures unanswered { result ≡ 1 → (text : List ℕ) × Answers (P.marks policy) (words_of words.now) (F.told files.old) text true × Took (S.taken out.old) (S.taken out.new) text }
     // 5: `out` failed, and took a front of that text.
-    ensures front { result ≡ 5 → (text : List ℕ) × (b : Bool) × Answers (words_of words.now) (F.told files.old) text b × TookFront (S.taken out.old) (S.taken out.new) text }
+    ensures front { result ≡ 5 → (text : List ℕ) × (b : Bool) × Answers (P.marks policy) (words_of words.now) (F.told files.old) text b × TookFront (S.taken out.old) (S.taken out.new) text }
     ensures write { result ≡ 5 → Rose (S.faults out.old) (S.faults out.new) }
     ensures write_told { S.faults out.old < S.faults out.new → result ≡ 5 }
     ensures quiet { (result ≡ 0) ⊎ (result ≡ 1) ⊎ (result ≡ 5) → T.taken err.new ≡ T.taken err.old }

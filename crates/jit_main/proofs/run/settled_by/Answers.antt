@@ -1,4 +1,3 @@
-use Rattle.std.proofs.Common.{false}
 use Rattle.jit_main.proofs.Firsts.{are_first, split_last}
 use Rattle.jit_main.proofs.Readying.{are_calls_of, is_image}
 use Rattle.jit_main.proofs.run.settled_by.Goals as goal
@@ -22,7 +21,5 @@ returns-in-Ok-run-clause-settled g c =
       versions = c.in-Ok.versions.items;
       quick = c.in-Ok.ensures;
       fits = c.in-Ok-run.ensures.fits;
-      marks = g.P.ReoptPolicy.marks c.args.policy;
-      test = λ point overlap. false;
       comes = c.in-Ok-run.ensures.settled parts.0 parts.1 parts.2;
     }

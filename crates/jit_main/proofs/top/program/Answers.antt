@@ -9,14 +9,14 @@ pub returns-in-Ok-Some-clause-finished : goal.returns-in-Ok-Some-clause-finished
 returns-in-Ok-Some-clause-finished g c =
     let is : command_of (words_of c.args.words.now) ≡ Some (line_of c.in-Ok-Some.line) =
     sym (subst (λ (o : Option CommandLine). option_map line_of o ≡ command_of (words_of c.args.words.now)) c.in-Ok-Some.field-0-is c.in-Ok-Some.ensures.line) in
-    ended_by _ _ _ _ _ (line_of c.in-Ok-Some.line) c.writes-ended.result _ is
+    ended_by (g.P.ReoptPolicy.marks c.args.policy) _ _ _ _ _ (line_of c.in-Ok-Some.line) c.writes-ended.result _ is
     c.writes-ended.ensures.text c.writes-ended.ensures.kept c.writes-ended.ensures.stop c.finish.ensures.wrote c.finish.ensures.stopped
 
 pub returns-in-Ok-None-clause-finished : goal.returns-in-Ok-None-clause-finished
 returns-in-Ok-None-clause-finished g c =
     let is : command_of (words_of c.args.words.now) ≡ None =
     sym (subst (λ (o : Option CommandLine). option_map line_of o ≡ command_of (words_of c.args.words.now)) c.in-Ok-None.field-0-is c.in-Ok-None.ensures.line) in
-    no_command _ _ _ _ _ _ is refl c.finish-in-Ok-None.ensures.stopped
+    no_command (g.P.ReoptPolicy.marks c.args.policy) _ _ _ _ _ _ is refl c.finish-in-Ok-None.ensures.stopped
 
 pub returns-in-Err-clause-finished : goal.returns-in-Err-clause-finished
-returns-in-Err-clause-finished g c = no_words _ _ _ _ _ _ refl c.finish-in-Err.ensures.stopped
+returns-in-Err-clause-finished g c = no_words (g.P.ReoptPolicy.marks c.args.policy) _ _ _ _ _ _ refl c.finish-in-Err.ensures.stopped
