@@ -1,5 +1,5 @@
 //! Calls over drawn events.
-use crate::program::{Given, NAMES, written};
+use crate::program::{Given, NAMES, alone, written};
 use crate::texts::SWAP;
 use std::test::Fail;
 
@@ -33,5 +33,27 @@ fn twice_the_same(rt: HostRuntime) -> Result<(), Fail> {
         let one = b"@swap(10, 3) = 7\nversions 1\n".as_slice();
         assert_eq!(rt; once.bytes() == one, is_one, "the versions of {words}");
     }
+    Ok(())
+}
+
+/// What `serial` writes is what the program writes, and it leaves `run` alone.
+#[test]
+fn by_serial(rt: HostRuntime) -> Result<(), Fail> {
+    let alloc = rt.alloc();
+    let mut given = Given {
+        words: "sim a.ll c.txt --draw 4",
+        names: NAMES,
+        module: SWAP,
+        calls: "@swap(i64 10, i64 3)\n",
+        failing: &[],
+    };
+    let whole = written(&rt, alloc, &given)?;
+    let (status, out) = alone(alloc, &given)?;
+    assert_eq!(rt; status, Some(0));
+    assert_eq!(rt; out.bytes(), whole.bytes());
+    given.words = "run a.ll c.txt";
+    let (status, out) = alone(alloc, &given)?;
+    assert_eq!(rt; status, None);
+    assert_eq!(rt; out.bytes(), b"".as_slice());
     Ok(())
 }

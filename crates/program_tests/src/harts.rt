@@ -1,6 +1,6 @@
 //! Calls on many harts: each begins with the first data memory, and their answers stand in the order of the list.
 use crate::program::answers;
-use crate::texts::{ADD, DOWN, KEEPS};
+use crate::texts::{ADD, DOWN, KEEPS, TWO};
 use std::test::Fail;
 
 #[test]
@@ -36,4 +36,14 @@ fn in_order(rt: HostRuntime) -> Result<(), Fail> {
         answers(&rt, rt.alloc(), "run a.ll c.txt --harts 16", row)?;
     }
     Ok(())
+}
+
+/// The rows of a session behind its answers.
+#[test]
+fn with_rows(rt: HostRuntime) -> Result<(), Fail> {
+    let out =
+        "@two(40) = 42\n@inc(1) = 2\n@two entries 1 level 1 words 23\n@inc entries 3 level 1 words 19\ncode words 44\n";
+    let row = (TWO, "@two(i64 40)\n@inc(i64 1)\n", 0, out, "");
+    answers(&rt, rt.alloc(), "run a.ll c.txt --report", row)?;
+    answers(&rt, rt.alloc(), "run --report a.ll c.txt --harts=2", row)
 }

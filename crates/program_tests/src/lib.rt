@@ -10,6 +10,8 @@ mod faults;
 #[cfg(test)]
 mod harts;
 #[cfg(test)]
+mod hot;
+#[cfg(test)]
 mod limits;
 #[cfg(test)]
 mod listings;
@@ -19,6 +21,8 @@ mod many;
 mod program;
 #[cfg(test)]
 mod readme;
+#[cfg(test)]
+mod replaced;
 #[cfg(test)]
 mod rooms;
 #[cfg(test)]

@@ -1,7 +1,7 @@
 //! The program over files and sinks in memory.
-use jit_bench::NoGate;
-use jit_main::reopt;
-use reopt_policy::Quiet;
+use jit_bench::{Gate, NoGate};
+use jit_main::{reopt, serial};
+use reopt_policy::{Marks, Quiet, ReoptPolicy};
 use rj_io::{MemFiles, MemSink};
 use std::alloc::{AllocError, Global};
 use std::process::Abort;
@@ -62,9 +62,54 @@ pub fn carry_out(
     out: &mut MemSink,
     err: &mut MemSink,
 ) -> Result<u8, AllocError> {
+    carry_out_by(rt, alloc, given, out, err, Quiet, &NoGate)
+}
+
+/// The same by this policy, with a gate.
+pub fn carry_out_by<P: ReoptPolicy + Send, G: Gate + Sync>(
+    rt: &(impl Threads + Wait + Sync),
+    alloc: Global,
+    given: &Given<'_>,
+    out: &mut MemSink,
+    err: &mut MemSink,
+    policy: P,
+    gate: &G,
+) -> Result<u8, AllocError> {
     let mut files = files_of(alloc, given)?;
     let words = words_of(alloc, given.words)?;
-    Ok(reopt(rt, alloc, &words, &mut files, out, err, Quiet, &NoGate))
+    Ok(reopt(rt, alloc, &words, &mut files, out, err, policy, gate))
+}
+
+/// Carries out a command by a policy of one mark, with a gate, and compares all that it leaves.
+pub fn comes_to_by<G: Gate + Sync>(
+    rt: &(impl Abort + Threads + Wait + Sync),
+    alloc: Global,
+    given: &Given<'_>,
+    wanted: &Wanted<'_>,
+    mark: u64,
+    gate: &G,
+) -> Result<(), Fail> {
+    let mut out = MemSink::new(alloc, MOST, MOST, Vec::new(alloc))?;
+    let mut err = MemSink::new(alloc, MOST, MOST, Vec::new(alloc))?;
+    let Some(marks) = Marks::new(vec![in alloc; mark]?) else {
+        panic!(rt; "one mark is none");
+    };
+    let status = carry_out_by(rt, alloc, given, &mut out, &mut err, marks, gate)?;
+    let words = given.words;
+    assert_eq!(rt; status, wanted.status, "the status of {words}");
+    assert_eq!(rt; out.bytes(), wanted.out.as_bytes(), "the output of {words}");
+    assert_eq!(rt; err.bytes(), wanted.err.as_bytes(), "what {words} says");
+    Ok(())
+}
+
+/// What `serial` answers, and what goes out.
+pub fn alone(alloc: Global, given: &Given<'_>) -> Result<(Option<u8>, MemSink), AllocError> {
+    let mut files = files_of(alloc, given)?;
+    let mut out = MemSink::new(alloc, MOST, MOST, Vec::new(alloc))?;
+    let mut err = MemSink::new(alloc, MOST, MOST, Vec::new(alloc))?;
+    let words = words_of(alloc, given.words)?;
+    let status = serial(alloc, &words, &mut files, &mut out, &mut err);
+    Ok((status, out))
 }
 
 /// Carries out a command that answers all and says nothing: what goes out.

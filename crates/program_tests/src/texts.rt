@@ -46,3 +46,33 @@ pub const TWICE: &str =
 /// Takes the place of the number in a global, and answers the difference.
 pub const KEEPS: &str =
     "@g = global i32 7\ndefine i32 @keep(i32 %a) {\n  %b = load i32, ptr @g\n  store i32 %a, ptr @g\n  %c = load i32, ptr @g\n  %d = sub i32 %c, %b\n  ret i32 %d\n}\n";
+
+/// Operators of 64 bits, on lines with and without spaces before them.
+pub const OTHERS: &str =
+    "define i64 @f(i64 %a, i64 %b) {\n%c = sub i64 %a, %b\n%d = mul i64 %c, %c\n%e = and i64 %d, %a\n%g = or i64 %e, %b\n   %h = xor i64 %g, %d\n  ret i64 %h\n}";
+
+/// A function that calls another twice.
+pub const TWO: &str =
+    "define i64 @two(i64 %a) {\n  %b = call i64 @inc(i64 %a)\n  %c = call i64 @inc(i64 %b)\n  ret i64 %c\n}\ndefine i64 @inc(i64 %a) {\n  %b = add i64 %a, 1\n  ret i64 %b\n}\n";
+
+/// Calls itself without an end.
+pub const DEEP: &str = "define i64 @r(i64 %a) {\n  %b = call i64 @r(i64 %a)\n  ret i64 %b\n}\n";
+
+/// Fibonacci numbers by a loop and by calls, beside a global.
+pub const FIBONACCI: &str =
+    "@unused = global i64 5\ndefine i64 @loop(i64 %n) {\nentry:\n  %none = icmp eq i64 %n, 0\n  br i1 %none, label %out, label %body\nbody:\n  %i = phi i64 [ 0, %entry ], [ %j, %body ]\n  %a = phi i64 [ 0, %entry ], [ %b, %body ]\n  %b = phi i64 [ 1, %entry ], [ %sum, %body ]\n  %sum = add i64 %a, %b\n  %j = add i64 %i, 1\n  %less = icmp ult i64 %j, %n\n  br i1 %less, label %body, label %out\nout:\n  %r = phi i64 [ 0, %entry ], [ %b, %body ]\n  ret i64 %r\n}\ndefine i64 @calls(i64 %n) {\n  %small = icmp slt i64 %n, 2\n  br i1 %small, label %done, label %more\ndone:\n  ret i64 %n\nmore:\n  %m = sub i64 %n, 1\n  %k = sub i64 %n, 2\n  %a = call i64 @calls(i64 %m)\n  %b = call i64 @calls(i64 %k)\n  %s = add i64 %a, %b\n  ret i64 %s\n}\n";
+
+/// The mean of two signed bytes, half of the lesser of two numbers, and a function without a result.
+pub const NARROW: &str =
+    "define i8 @mean(i8 %a, i8 %b) {\n  %c = sext i8 %a to i16\n  %d = sext i8 %b to i16\n  %e = add nsw i16 %c, %d\n  %f = sdiv i16 %e, 2\n  %g = trunc i16 %f to i8\n  ret i8 %g\n}\ndefine i32 @half(i32 %a, i32 %b) {\n  %c = icmp slt i32 %a, %b\n  %d = select i1 %c, i32 %a, i32 %b\n  %e = ashr i32 %d, 1\n  ret i32 %e\n}\ndefine void @none(i64 %a) {\n  %b = call i8 @mean(i8 1, i8 2)\n  ret void\n}\n";
+
+/// A switch over bytes.
+pub const SWITCHES: &str =
+    "define i8 @d(i8 %a) {\n  switch i8 %a, label %other [ i8 -1, label %last  i8 3, label %third ]\nother:\n  ret i8 %a\nlast:\n  ret i8 10\nthird:\n  ret i8 20\n}\n";
+
+/// The address of a part.
+pub const PARTS: &str =
+    "define i64 @d() {\n  %p = getelementptr i64, ptr null, i64 1\n  ret i64 3\n}\n";
+
+/// Data memory of a function's own.
+pub const ALLOCATES: &str = "define i64 @d() {\n  %p = alloca i64\n  ret i64 3\n}\n";
