@@ -42,6 +42,89 @@ fn files_that_cannot_be_read(rt: HostRuntime) -> Result<(), Fail> {
     Ok(())
 }
 
+/// What a user may get wrong, and what looks wrong and isn't: words, options, files (a folder or a file that may not be read fails to load)
+/// and texts. Each row has the module, the calls, the numbers of the loads that fail, the status and what goes out or is said.
+#[test]
+fn what_users_get_wrong(rt: HostRuntime) -> Result<(), Fail> {
+    let calls = "@add(i64 2, i64 3)\n";
+    let lines =
+        "define i64 @add(i64 %a, i64 %b) {\r\n  %s = add i64 %a, %b\r\n  ret i64 %s\r\n}\r\n";
+    let rows: [(&str, &str, &str, &[u64], u8, &str); 11] = [
+        ("walk a.ll c.txt", ADD, calls, &[], 3, "reopt: usage\n"),
+        (
+            "run a.ll c.txt --harts 17",
+            ADD,
+            calls,
+            &[],
+            3,
+            "reopt: usage\n",
+        ),
+        (
+            "run a.ll c.txt --harts 2 --harts 2",
+            ADD,
+            calls,
+            &[],
+            3,
+            "reopt: usage\n",
+        ),
+        (
+            "run no.ll c.txt",
+            ADD,
+            calls,
+            &[],
+            4,
+            "reopt: cannot read no.ll\n",
+        ),
+        (
+            "run a.ll c.txt",
+            ADD,
+            calls,
+            &[0],
+            4,
+            "reopt: cannot read a.ll\n",
+        ),
+        (
+            "run a.ll c.txt",
+            ADD,
+            calls,
+            &[1],
+            4,
+            "reopt: cannot read c.txt\n",
+        ),
+        ("run a.ll c.txt", lines, calls, &[], 0, "@add(2, 3) = 5\n"),
+        ("run a.ll c.txt", "", "", &[], 0, ""),
+        ("run a.ll c.txt", ADD, "", &[], 0, ""),
+        (
+            "run a.ll c.txt",
+            "",
+            calls,
+            &[],
+            2,
+            "reopt: calls: line 1: no such function\n",
+        ),
+        (
+            "run a.ll c.txt",
+            ADD,
+            "@add(i64 2, i64 3)",
+            &[],
+            0,
+            "@add(2, 3) = 5\n",
+        ),
+    ];
+    for (words, module, calls, failing, status, text) in rows {
+        let given = Given {
+            words,
+            names: NAMES,
+            module,
+            calls,
+            failing,
+        };
+        let (out, err) = if status == 0 { (text, "") } else { ("", text) };
+        comes_to(&rt, rt.alloc(), &given, &Wanted { status, out, err })?;
+    }
+    Ok(())
+}
+
 /// Writes the 15 bytes of an answer, four at a time, where the write of this number fails: the status, and what went out.
 fn cut(
     rt: &(impl Abort + Threads + Wait + Sync),
