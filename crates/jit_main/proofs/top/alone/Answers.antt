@@ -10,7 +10,7 @@ returns-else-runs-clause-finished g c =
     let is : command_of (words_of c.args.words.now) ≡ Some (line_of c.in-Ok-Some.line) =
     sym (subst (λ (o : Option CommandLine). option_map line_of o ≡ command_of (words_of c.args.words.now)) c.in-Ok-Some.field-0-is c.in-Ok-Some.ensures.line) in
     ended_by [] _ _ _ _ _ (line_of c.in-Ok-Some.line) c.serial_writes-ended.result _ is
-    c.serial_writes-ended.ensures.text [] c.serial_writes-ended.ensures.kept c.serial_writes-ended.ensures.stop c.finish.ensures.wrote c.finish.ensures.stopped
+    (c.serial_writes-ended.ensures.text []) c.serial_writes-ended.ensures.kept c.serial_writes-ended.ensures.stop c.finish.ensures.wrote c.finish.ensures.stopped
 
 pub returns-in-Ok-None-clause-finished : goal.returns-in-Ok-None-clause-finished
 returns-in-Ok-None-clause-finished g c =
