@@ -1,0 +1,5 @@
+pub mod Values
+pub mod Lock
+pub mod Kept
+pub mod Itself
+pub mod Samples

@@ -1,0 +1,4 @@
+pub mod Play
+pub mod Formed
+pub mod Refines
+pub mod Laws

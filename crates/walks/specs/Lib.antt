@@ -1,0 +1,7 @@
+pub mod Walk
+pub mod Refines
+pub mod Simulation
+pub mod Bits
+pub mod Bytes
+pub mod Functions
+pub mod Laws
