@@ -29,7 +29,30 @@ fn report(alloc: Global, rows: &str) -> Result<String, AllocError> {
     Ok(text)
 }
 
-/// Runs the calls on 1, 2, 7 and 16 harts with so many workers, and compares all that goes out.
+/// Runs the calls by these words, and compares all that goes out.
+fn on(
+    rt: &(impl Abort + Threads + Wait + Sync),
+    alloc: Global,
+    words: &str,
+    calls: &str,
+    out: &str,
+) -> Result<(), Fail> {
+    let given = Given {
+        words,
+        names: NAMES,
+        module: TWICE,
+        calls,
+        failing: &[],
+    };
+    let wanted = Wanted {
+        status: 0,
+        out,
+        err: "",
+    };
+    comes_to_by(rt, alloc, &given, &wanted, 10, &NoGate)
+}
+
+/// Runs the calls on 1, 2, 7 and 16 harts with these options, and compares all that goes out.
 fn on_harts(
     rt: &(impl Abort + Threads + Wait + Sync),
     alloc: Global,
@@ -39,19 +62,7 @@ fn on_harts(
 ) -> Result<(), Fail> {
     for harts in [1, 2, 7, 16] {
         let words = format!(in alloc; "run a.ll c.txt --harts {harts} {options}")?;
-        let given = Given {
-            words: &words,
-            names: NAMES,
-            module: TWICE,
-            calls,
-            failing: &[],
-        };
-        let wanted = Wanted {
-            status: 0,
-            out,
-            err: "",
-        };
-        comes_to_by(rt, alloc, &given, &wanted, 10, &NoGate)?;
+        on(rt, alloc, &words, calls, out)?;
     }
     Ok(())
 }
