@@ -1,0 +1,4 @@
+pub mod Code
+pub mod WellFormed
+pub mod Live
+pub mod Places

@@ -1,0 +1,7 @@
+mod Groups
+mod Ranks
+mod Counts
+mod Placing
+mod Orders
+mod Stages
+mod Finished
