@@ -1,0 +1,9 @@
+mod Extending
+mod Kept
+mod Noting
+mod Reading
+mod Graphing
+mod Starting
+mod Samples
+mod Looking
+mod Covering
