@@ -1,5 +1,5 @@
 -- What it comes to where all registers are placed.
-use Rattle.std.proofs.Common.{◌≡◌, ◌≢◌, ℕ, zero, suc, ◌+◌, ◌-◌, ◌<◌, ◌≤◌, ◌⊎◌, inl, inr, Bool, true, false, ◌&&◌, cond, leb, List, [], ◌∷◌, ◌++◌, length, get_or, take, map, count_by, Option, Some, None, arith, refl, ap, sym, ◌∙◌, subst}
+use Rattle.std.proofs.Common.{◌≡◌, ◌≢◌, ℕ, ◌+◌, ◌<◌, ◌≤◌, ◌⊎◌, inl, inr, false, cond, leb, List, length, take, count_by, Option, Some, None, arith, refl, ap, sym, ◌∙◌}
 use Rattle.std.specs.Prelude.{unwrap_or}
 use Rattle.std.specs.List.{Contains}
 use Rattle.std.specs.List.Sorted.{IsPermutation}
@@ -11,12 +11,12 @@ use Rattle.mir.specs.declared.places.Place.TheVariants.{Saved, Slot}
 use Rattle.mir.specs.declared.places.Places.{Places}
 use Rattle.mir.specs.Places.{span_of, place_of, Holds, IsPlace, Fits}
 use Rattle.regalloc.specs.declared.starts.Start.{Start}
-use Rattle.regalloc.specs.Overlap.{contains, overlap, HasRoom}
+use Rattle.regalloc.specs.Overlap.{overlap, HasRoom}
 use Rattle.regalloc.specs.FirstFit.{place_at, IsBefore, Meets, IsTaken, TakesFirst, IsFirstFit, UsesNoSlot}
-use Rattle.regalloc.specs.Steps.{starts_from, place_without_points, ComesBefore, Rises}
+use Rattle.regalloc.specs.Steps.{starts_from, place_without_points, Rises}
 use Rattle.regalloc.proofs.Ranks.{slot_rank, is_place}
 use Rattle.regalloc.proofs.Orders.{entry, IsEntry, is_entry, has_entry, count_covers}
-use Rattle.regalloc.proofs.Placing.{covers, stands, Blocks, HasPlace, Placing, before_starts}
+use Rattle.regalloc.proofs.Placing.{covers, Blocks, HasPlace, Placing, before_starts}
 use Rattle.regalloc.proofs.Stages.{Stage, span_at, get_or-map_none, some_none}
 
 one_span : (one other : ℕ × ℕ) → Some one ≡ Some other → one ≡ other

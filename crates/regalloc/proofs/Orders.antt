@@ -1,16 +1,15 @@
 -- The registers whose spans have a point: each once, and in order.
-use Rattle.std.proofs.Common.{◌≡◌, ◌≢◌, ℕ, zero, suc, ◌+◌, ◌-◌, ◌<◌, ◌≤◌, ◌⊎◌, inl, inr, Bool, true, false, ◌&&◌, cond, eqb, leb, ltb, List, [], ◌∷◌, ◌++◌, length, get_or, take, count_by, sum_by, Option, Some, None, arith, refl, ap, sym, ◌∙◌, subst}
+use Rattle.std.proofs.Common.{◌≡◌, ◌≢◌, ℕ, zero, suc, ◌+◌, ◌-◌, ◌<◌, ◌≤◌, inl, inr, Bool, true, false, cond, eqb, leb, List, [], ◌∷◌, ◌++◌, length, get_or, count_by, Option, Some, None, arith, refl, ap, sym, ◌∙◌, subst}
 use Rattle.std.specs.List.{Contains}
 use Rattle.std.specs.List.Sorted.{IsPermutation, IsNonDecreasingBy, IsSortedByKey}
 use Rattle.std.specs.Ordering.{nat_cmp, is_lt}
-use Rattle.std.proofs.lemmas.List.{get_or_past}
 use Rattle.std.proofs.lemmas.List.Elements.{Contains-append_left, Contains-append_right, Contains-append_cases, Contains-get_or}
 use Rattle.std.proofs.lemmas.List.Sums.{sum_by-append, sum_by-cons}
 use Rattle.std.proofs.lemmas.List.Sorted.{sum_by-IsPermutation, Contains-permutation, IsPermutation-sym}
-use Rattle.std.proofs.lemmas.Bool.{cond_both, leb-true, leb-false, le-leb, lt-leb, le-ltb, eq-eqb, ne_eqb, and_left, and_right, cases_eq, cases_lt, cases_Bool}
+use Rattle.std.proofs.lemmas.Bool.{leb-true, leb-false, le-leb, lt-leb, le-ltb, eq-eqb, ne_eqb, and_left, and_right, cases_eq, cases_lt, cases_Bool}
 use Rattle.regalloc.specs.declared.starts.Start.{Start}
 use Rattle.regalloc.specs.Overlap.{contains}
-use Rattle.regalloc.specs.Steps.{start_of, starts_from, ComesBefore, Rises}
+use Rattle.regalloc.specs.Steps.{start_of, starts_from, Rises}
 use Rattle.regalloc.proofs.Counts.{count_yes, count_no, none_pass, two_pass}
 use Rattle.regalloc.proofs.Placing.{covers}
 

@@ -1,14 +1,14 @@
 -- What is kept while registers are placed one after another, and that one more keeps it.
-use Rattle.std.proofs.Common.{◌≡◌, ◌≢◌, ℕ, ◌+◌, ◌<◌, ◌≤◌, ◌⊎◌, inl, inr, Bool, true, false, ◌&&◌, ltb, leb, List, [], ◌∷◌, ◌++◌, length, get_or, set, count_by, Option, Some, None, arith, refl, ap, sym, ◌∙◌, subst}
+use Rattle.std.proofs.Common.{◌≡◌, ◌≢◌, ℕ, ◌+◌, ◌<◌, ◌≤◌, ◌⊎◌, inl, inr, Bool, true, false, ◌&&◌, leb, List, [], ◌∷◌, ◌++◌, length, get_or, set, count_by, Option, Some, None, arith, refl, ap, sym, ◌∙◌, subst}
 use Rattle.std.specs.List.{Contains}
 use Rattle.std.proofs.lemmas.List.{length_push, length-set, get_or-set_same, get_or-set_other, get_or_append_left, get_or_push}
 use Rattle.std.proofs.lemmas.List.Elements.{Contains-push, Contains-push_cases, Contains-append_left}
 use Rattle.std.proofs.lemmas.List.Sums.{count_by-le-length}
-use Rattle.std.proofs.lemmas.Bool.{leb-true, leb-false, le-leb, lt-leb, and_parts, and_from, and_left, and_right, and_cases, cases_lt, cases_eq, cases_Bool, false_from_ne_true}
+use Rattle.std.proofs.lemmas.Bool.{leb-true, le-leb, lt-leb, and_parts, and_from, and_right, cases_lt, cases_eq, cases_Bool}
 use Rattle.mir.specs.declared.places.Place.{Place}
 use Rattle.regalloc.specs.declared.starts.Start.{Start}
 use Rattle.regalloc.specs.FirstFit.{place_at}
-use Rattle.regalloc.specs.Steps.{ComesBefore, IsFree, Takes}
+use Rattle.regalloc.specs.Steps.{ComesBefore, Takes}
 use Rattle.regalloc.proofs.Ranks.{one_rank}
 use Rattle.regalloc.proofs.Counts.{first_pass, one_fails, push_yes, push_no, set_yes, set_no, wider}
 

@@ -1,5 +1,5 @@
 -- Places in their order.
-use Rattle.std.proofs.Common.{◌≡◌, ℕ, ◌+◌, ◌-◌, ◌<◌, ◌≤◌, Option, Some, None, Bool, true, false, ltb, arith, refl, ap, sym, ◌∙◌, cond}
+use Rattle.std.proofs.Common.{◌≡◌, ℕ, ◌+◌, ◌-◌, ◌<◌, ◌≤◌, Option, Some, None, ltb, arith, refl, ap, sym, ◌∙◌}
 use Rattle.mir.specs.declared.places.Place.{Place}
 use Rattle.mir.specs.declared.places.Place.TheVariants.{Saved, Slot}
 use Rattle.mir.specs.Places.{IsPlace}

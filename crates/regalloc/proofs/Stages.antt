@@ -1,24 +1,19 @@
 -- What is kept while the registers are placed in order, and what it comes to.
-use Rattle.std.proofs.Common.{◌≡◌, ◌≢◌, ℕ, zero, suc, ◌+◌, ◌-◌, ◌<◌, ◌≤◌, ◌⊎◌, inl, inr, Bool, true, false, ◌&&◌, cond, leb, List, [], ◌∷◌, ◌++◌, length, get_or, set, take, drop, map, count_by, sum_by, Option, Some, None, arith, refl, ap, sym, ◌∙◌, subst}
+use Rattle.std.proofs.Common.{◌≡◌, ◌≢◌, ℕ, zero, suc, ◌+◌, ◌-◌, ◌<◌, ◌≤◌, inl, inr, true, false, cond, leb, List, [], ◌∷◌, ◌++◌, length, get_or, take, drop, map, count_by, Option, Some, None, arith, refl, ap, sym, ◌∙◌}
 use Rattle.std.specs.List.{Contains}
 use Rattle.std.specs.List.Sorted.{IsPermutation}
-use Rattle.std.proofs.lemmas.List.{take_more, take_all, length-set, length-map, length-take, get_or-take, get_or-drop, get_or-set_other, get_or_default, length-drop}
-use Rattle.std.proofs.lemmas.List.Elements.{Contains-get_or, Contains-push_cases, Contains-push, Contains-append_left}
+use Rattle.std.proofs.lemmas.List.{take_more, length-set, length-map, length-take, get_or-take, get_or-drop, get_or-set_other, get_or_default, length-drop}
+use Rattle.std.proofs.lemmas.List.Elements.{Contains-push, Contains-append_left}
 use Rattle.std.proofs.lemmas.List.Sums.{sum_by-take-le, sum_by-take-drop}
-use Rattle.std.proofs.lemmas.Bool.{leb-true, leb-false, le-leb, lt-leb, and_from, and_left, cases_lt, cases_eq, cases_Bool, cond_both, cond-true, cond-false}
-use Rattle.mir.specs.declared.places.Intervals.{Intervals}
+use Rattle.std.proofs.lemmas.Bool.{le-leb, lt-leb, and_from, and_left}
 use Rattle.mir.specs.declared.places.Place.{Place}
-use Rattle.mir.specs.declared.places.Place.TheVariants.{Saved, Slot}
-use Rattle.mir.specs.declared.places.Places.{Places}
-use Rattle.mir.specs.Places.{span_of, place_of, Holds, IsPlace, Fits}
 use Rattle.regalloc.specs.declared.starts.Start.{Start}
-use Rattle.regalloc.specs.Overlap.{contains, overlap, HasRoom}
-use Rattle.regalloc.specs.FirstFit.{place_at, IsBefore, Meets, IsTaken, TakesFirst, IsFirstFit, UsesNoSlot}
-use Rattle.regalloc.specs.Steps.{starts_from, place_without_points, IsFull, Takes, Assigns, ComesBefore, Rises}
-use Rattle.regalloc.proofs.Ranks.{slot_rank, is_place}
+use Rattle.regalloc.specs.Overlap.{contains}
+use Rattle.regalloc.specs.FirstFit.{place_at}
+use Rattle.regalloc.specs.Steps.{starts_from, place_without_points, IsFull, Assigns, ComesBefore, Rises}
 use Rattle.regalloc.proofs.Counts.{none_pass, push_yes}
-use Rattle.regalloc.proofs.Orders.{entry, IsEntry, is_entry, has_entry, count_covers}
-use Rattle.regalloc.proofs.Placing.{covers, stands, Blocks, HasPlace, Placing, before_starts, busy_here, crowded_here, one_more, none_placed}
+use Rattle.regalloc.proofs.Orders.{IsEntry, is_entry, count_covers}
+use Rattle.regalloc.proofs.Placing.{covers, Placing, before_starts, crowded_here, one_more, none_placed}
 
 -- the first so many starts are placed, and every other register is as it was
 pub record Stage (spans : List (Option (ℕ × ℕ))) (order : List Start) (count : ℕ) (ends : List ℕ) (at : List (Option Place)) (limit : ℕ) : Type 0 where

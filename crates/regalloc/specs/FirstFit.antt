@@ -1,5 +1,5 @@
 -- The assignment in which each register takes the first free place, in order of where spans start.
-use Rattle.std.specs.Prelude.{◌≡◌, ℕ, ◌+◌, ◌-◌, ◌<◌, ◌⊎◌, nat_lt, length, Option, Some, None, if◌then◌else◌}
+use Rattle.std.specs.Prelude.{◌≡◌, ℕ, ◌+◌, ◌-◌, ◌<◌, ◌⊎◌, nat_lt, length, Some, None, if◌then◌else◌}
 use Rattle.mir.specs.declared.places.Intervals.{Intervals}
 use Rattle.mir.specs.declared.places.Place.{Place}
 use Rattle.mir.specs.declared.places.Place.TheVariants.{Saved, Slot}

@@ -4,3 +4,5 @@
 mod ends;
 pub mod place;
 mod starts;
+#[cfg(test)]
+mod tests;

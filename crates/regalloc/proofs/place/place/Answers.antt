@@ -1,10 +1,10 @@
-use Rattle.std.proofs.Common.{◌≡◌, ℕ, ◌+◌, ◌<◌, ◌≤◌, length, get_or, count_by, List, true, false, Bool, arith, ap, sym, ◌∙◌}
+use Rattle.std.proofs.Common.{ℕ, ◌+◌, ◌<◌, ◌≤◌, length, get_or, count_by, arith, ap}
 use Rattle.std.specs.List.Sorted.{IsPermutation}
 use Rattle.std.proofs.lemmas.List.{get_or_default}
 use Rattle.std.proofs.lemmas.Bool.{MatchBool-at_true, MatchBool-at_false}
 use Rattle.regalloc.specs.declared.starts.Start.{Start}
-use Rattle.regalloc.specs.Overlap.{contains, overlap}
-use Rattle.regalloc.specs.Steps.{starts_from, Rises, Assigns, IsFull}
+use Rattle.regalloc.specs.Overlap.{contains}
+use Rattle.regalloc.specs.Steps.{starts_from, Rises}
 use Rattle.regalloc.proofs.Stages.{inside, go_on, too_many}
 use Rattle.regalloc.proofs.Finished.{done, done_first, done_fits, done_saved, done_room}
 use Rattle.regalloc.proofs.place.place.Goals as goal

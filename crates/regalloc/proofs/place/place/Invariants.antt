@@ -1,6 +1,3 @@
-use Rattle.std.proofs.Common.{◌≡◌, ◌+◌}
-use Rattle.std.specs.List.Sorted.{IsPermutation}
-use Rattle.regalloc.specs.Steps.{starts_from, Rises}
 use Rattle.regalloc.proofs.Stages.{Stage}
 use Rattle.regalloc.proofs.place.place.Given as goal
 
