@@ -30,12 +30,12 @@ fn report(alloc: Global, rows: &str) -> Result<String, AllocError> {
 }
 
 /// Runs the calls by these words, and compares all that goes out.
-fn on(
+fn on<'a>(
     rt: &(impl Abort + Threads + Wait + Sync),
     alloc: Global,
-    words: &str,
-    calls: &str,
-    out: &str,
+    words: &'a str,
+    calls: &'a str,
+    out: &'a str,
 ) -> Result<(), Fail> {
     let given = Given {
         words,
