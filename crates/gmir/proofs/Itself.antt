@@ -1,19 +1,23 @@
 -- A function refines itself, and refinement composes.
-use Rattle.std.proofs.Common.{◌≡◌, refl, sym, subst, ◌∙◌, ℕ, ◌+◌, Bool, true, false, List, [], ◌∷◌, Option, Some, None, arith}
+use Rattle.std.proofs.Common.{◌≡◌, refl, sym, subst, ℕ, ◌+◌, Bool, true, false, List, [], ◌∷◌, Option, Some, None, arith}
 use Rattle.std.specs.Prelude.{nat_lt, if◌then◌else◌}
 use Rattle.gmir.specs.declared.code.GType.{GType}
 use Rattle.gmir.specs.declared.code.GInst.{GInst}
 use Rattle.gmir.specs.declared.code.GFunction.{GFunction}
 use Rattle.ir_meaning.specs.Step.{stack_start}
-use Rattle.walks.specs.Walk.{Entry, Goes, Wants, Step, play_of}
-use Rattle.walks.specs.Refines.{RefinesBits, RefinesEntry, RefinesPlay}
-use Rattle.walks.specs.Simulation.{here, Follows, moves, wants, breaks}
-use Rattle.walks.proofs.Compose.{compose}
-use Rattle.walks.proofs.Simulate.{simulated}
+use Rattle.walks.specs.Walk.{Entry, Goes, Wants, Step}
+use Rattle.walks.specs.Refines.{RefinesBits, RefinesEntry}
+use Rattle.walks.specs.Simulation.{here, Follows, moves, wants, breaks, Simulation}
+use Rattle.walks.specs.Registers.{Registers, read, RegsAgree}
+use Rattle.walks.specs.Face.{frame_of, function_face}
+use Rattle.walks.proofs.Faces.{itself, composes}
+use Rattle.walks.proofs.OneEnd.{plays_have_one_end as walks_have_one_end}
+use Rattle.walks.proofs.Registers.{ReadsAlive, put_agrees}
 use Rattle.walks.proofs.Monotone.{cut_mono}
-use Rattle.gmir.specs.Play.{Registers, State, width, def_at, read, on_edge, phis, insts_at, with_phis, kind, step_at, step, first, enter, walk, frame_of}
-use Rattle.gmir.specs.Laws.{FunctionsRefineThemselves, RefinementComposes}
-use Rattle.gmir.proofs.Lock.{RegsAgree, Agree, ReadsAlive, put_agrees, Alike, EdgesAgree, in_step}
+use Rattle.gmir.specs.Play.{State, width, def_at, on_edge, phis, insts_at, with_phis, kind, step_at, step, first, enter, walk}
+use Rattle.gmir.specs.Refines.{face}
+use Rattle.gmir.specs.Laws.{FunctionsRefineThemselves, RefinementComposes, TranslationsMayBeRefined, PlaysHaveOneEnd}
+use Rattle.gmir.proofs.Lock.{Agree, Alike, EdgesAgree, in_step}
 
 -- each register counts
 abbrev all : ℕ → Bool
@@ -69,21 +73,17 @@ module _ (f : GFunction) where
   enters : (a b : Entry) → RefinesEntry f.end a b → Fol (enter f a) (enter f b)
   enters a b h = rw h.sp (enters_by a b h (nat_lt a.sp (stack_start + frame_of f.values)))
 
-  itself : RefinesPlay f.end (play_of (walk f)) (play_of (walk f))
-  itself = simulated f.end (walk f) (walk f) R (λ s. 0) (record { enters = λ a b h. (0, enters a b h); steps = steps })
+  pub simulation : Simulation f.end (walk f) (walk f) R (λ s. 0)
+  simulation = record { enters = λ a b h. (0, enters a b h); steps = steps }
 
 pub functions_refine_themselves : FunctionsRefineThemselves
-functions_refine_themselves f = record { symbol = refl; values = refl; end' = refl; static = omega arith; play = itself f }
+functions_refine_themselves f = itself (face f) (Alike f f all (Same f) (λ s. 0)) (λ s. 0) (simulation f)
 
 pub refinement_composes : RefinementComposes
-refinement_composes f g h p q =
-    let low = p.static in let low' = q.static in
-    record {
-      symbol = q.symbol ∙ p.symbol;
-      values = q.values ∙ p.values;
-      end' = q.end' ∙ p.end';
-      static = omega (arith, low, low');
-      play =
-          compose f.end (play_of (walk f)) (play_of (walk g)) (play_of (walk h)) p.play
-          (subst (λ (limit : ℕ). RefinesPlay limit (play_of (walk g)) (play_of (walk h))) p.end' q.play);
-    }
+refinement_composes f g h p q = composes (face f) (face g) (face h) p q
+
+pub translations_may_be_refined : TranslationsMayBeRefined
+translations_may_be_refined program symbol function f g p q = composes (function_face program symbol function) (face f) (face g) p q
+
+pub plays_have_one_end : PlaysHaveOneEnd
+plays_have_one_end f = walks_have_one_end (walk f)

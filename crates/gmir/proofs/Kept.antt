@@ -9,7 +9,8 @@ use Rattle.gmir.specs.declared.code.GOp.TheVariants.{Add, Sub, Mul, UDiv, SDiv, 
 use Rattle.gmir.specs.declared.code.GInst.{GInst}
 use Rattle.gmir.specs.declared.code.GFunction.{GFunction}
 use Rattle.walks.specs.Bits.{constant, number}
-use Rattle.gmir.specs.Play.{Registers, width, use_at, put, Kind, Computes, Divides, Other, State, insts_at, phis, behind_phis, with_phis, plain, operand, result, divided, take_edge, branch, at_address, moved, load_at, store_at, other, by_kind}
+use Rattle.walks.specs.Registers.{Registers, put}
+use Rattle.gmir.specs.Play.{width, use_at, Kind, Computes, Divides, Other, State, insts_at, phis, behind_phis, with_phis, plain, operand, result, divided, take_edge, branch, at_address, moved, load_at, store_at, other, by_kind}
 use Rattle.ir_meaning.specs.Step.{copied, set}
 
 -- the instruction writes a value that it doesn't compute

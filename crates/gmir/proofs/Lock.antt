@@ -1,6 +1,6 @@
 -- An instruction that stands in two functions does the same in both, from states that agree on the registers that it reads.
 use Rattle.std.proofs.Common.{◌≡◌, refl, sym, subst, ℕ, zero, suc, ◌+◌, ◌/◌, ◌≤◌, Bool, true, false, List, [], ◌∷◌, ◌++◌, take, map, Option, Some, None, arith}
-use Rattle.std.specs.Prelude.{if◌then◌else◌, nat_le, ◌==◌, slice_get, slice_index_or, replicate, IsTrue}
+use Rattle.std.specs.Prelude.{if◌then◌else◌, nat_le, slice_index_or, replicate}
 use Rattle.walks.specs.Walk.{Bits, Reply, Does, Goes, Wants, Breaks, Step}
 use Rattle.ir_meaning.specs.Memory.{Memory, top, is_inside, bytes_at, data_start}
 use Rattle.walks.specs.Refines.{RefinesBits, AllRefine, RefinesMemory, RefinesReply}
@@ -11,15 +11,13 @@ use Rattle.gmir.specs.declared.code.GInst.{GInst}
 use Rattle.gmir.specs.declared.code.GFunction.{GFunction}
 use Rattle.walks.specs.Bits.{free, cut, constant, number}
 use Rattle.walks.specs.Bytes.{bits_of_bytes, bytes_of_bits}
-use Rattle.gmir.specs.Play.{Registers, width, def_at, use_at, read, write, put, Kind, Computes, Divides, Other, State, insts_at, phis, behind_phis, with_phis, jumped, phi_weights, plain, give, operand, result, divided, take_edge, branch, at_address, change, moved, load_at, store_at, grown, behind_call, returned, other, by_kind, step}
+use Rattle.walks.specs.Registers.{Registers, put, RegsAgree}
+use Rattle.gmir.specs.Play.{width, def_at, use_at, Kind, Computes, Divides, Other, State, insts_at, phis, behind_phis, with_phis, jumped, phi_weights, plain, give, operand, result, divided, take_edge, branch, at_address, change, moved, load_at, store_at, grown, behind_call, returned, other, by_kind, step}
 use Rattle.walks.proofs.Monotone.{Keeps, keeps_number, cut_mono}
 use Rattle.gmir.proofs.Values.{value_mono}
 use Rattle.walks.proofs.Compose.{same_memory}
+use Rattle.walks.proofs.Registers.{ReadsAlive, read_agrees, args_agree, put_agrees, item_agrees}
 use Rattle.walks.proofs.Bytes.{bits_mono, stored_mono, append_mono, take_mono, read_mono, written_mono, MemoryKept, copied_mono, set_mono}
-
--- the registers that count agree
-abbrev pub RegsAgree : (ℕ → Bool) → Registers → Registers → Type 0
-RegsAgree alive regs regs' = (x : ℕ) → IsTrue (alive x) → RefinesBits (regs x) (regs' x)
 
 -- the states agree, but for what is left of the block
 pub record Agree (alive : ℕ → Bool) (s s' : State) : Type 0 where
@@ -28,39 +26,6 @@ pub record Agree (alive : ℕ → Bool) (s s' : State) : Type 0 where
   pub block : s'.block ≡ s.block
   pub regs : RegsAgree alive s.regs s'.regs
   pub memory : RefinesMemory s.memory s'.memory
-
--- the instruction reads only registers that count
-abbrev pub ReadsAlive : (ℕ → Bool) → List ℕ → Type 0
-ReadsAlive alive [] = Unit {0}
-ReadsAlive alive (r ∷ rs) = IsTrue (alive r) × ReadsAlive alive rs
-
-pub read_agrees : (alive : ℕ → Bool) (regs regs' : Registers) → RegsAgree alive regs regs' → (rs : List ℕ) → ReadsAlive alive rs → (k : ℕ) → RefinesBits (read regs (slice_get rs k)) (read regs' (slice_get rs k))
-read_agrees alive regs regs' h [] reads k = λ i z e. e
-read_agrees alive regs regs' h (r ∷ rs) reads zero = h r reads.0
-read_agrees alive regs regs' h (r ∷ rs) reads (suc k) = read_agrees alive regs regs' h rs reads.1 k
-
-pub args_agree : (alive : ℕ → Bool) (regs regs' : Registers) → RegsAgree alive regs regs' → (rs : List ℕ) → ReadsAlive alive rs → AllRefine (map (λ r. regs r) rs) (map (λ r. regs' r) rs)
-args_agree alive regs regs' h [] reads = tt
-args_agree alive regs regs' h (r ∷ rs) reads = (h r reads.0, args_agree alive regs regs' h rs reads.1)
-
-write_by : (alive : ℕ → Bool) (regs regs' : Registers) (d : ℕ) (a a' : Bits) (x : ℕ) (b : Bool) → RefinesBits (regs x) (regs' x) → RefinesBits a a'
-    → RefinesBits (if b then a else regs x) (if b then a' else regs' x)
-write_by alive regs regs' d a a' x true h p = p
-write_by alive regs regs' d a a' x false h p = h
-
-pub write_agrees : (alive : ℕ → Bool) (regs regs' : Registers) (d : ℕ) (a a' : Bits) → RegsAgree alive regs regs' → RefinesBits a a' → RegsAgree alive (write regs d a) (write regs' d a')
-write_agrees alive regs regs' d a a' h p x live = write_by alive regs regs' d a a' x (x == d) (h x live) p
-
-pub put_agrees : (alive : ℕ → Bool) (regs regs' : Registers) (ds : List ℕ) (a a' : Bits) → RegsAgree alive regs regs' → RefinesBits a a' → RegsAgree alive (put regs ds a) (put regs' ds a')
-put_agrees alive regs regs' [] a a' h p = h
-put_agrees alive regs regs' (d ∷ ds) a a' h p = write_agrees alive regs regs' d a a' h p
-
-item_agrees : (xs ys : List Bits) → AllRefine xs ys → (k : ℕ) → RefinesBits (slice_index_or xs k free) (slice_index_or ys k free)
-item_agrees [] [] h k = λ i z e. e
-item_agrees [] (y ∷ ys) h k = absurd h
-item_agrees (x ∷ xs) [] h k = absurd h
-item_agrees (x ∷ xs) (y ∷ ys) h zero = h.0
-item_agrees (x ∷ xs) (y ∷ ys) h (suc k) = item_agrees xs ys h.1 k
 
 -- Two functions that differ in their blocks alone, and what is asked of the two targets of an edge.
 module _ (f g : GFunction) (alive : ℕ → Bool) (Rests : List GInst → List GInst → Type 0) (measure : State → ℕ) where

@@ -11,7 +11,7 @@ use Rattle.walks.specs.Bits.{free, constant, number}
 use Rattle.gmir.specs.Play.{State, value, step, enter, first}
 use Rattle.gmir.specs.Refines.{static_weight}
 
-abbrev inst : GOp → List ℕ → List ℕ → ℕ → List ℕ → GInst
+abbrev pub inst : GOp → List ℕ → List ℕ → ℕ → List ℕ → GInst
 inst op defs uses num to = record { op = op; defs = defs; uses = uses; num = num; to = to }
 
 -- the low two bits are known, the third is free
@@ -42,7 +42,7 @@ below : number 1 (value Icmp 1 8 8 8 (constant 8 255) (constant 8 1) free) ≡ S
 below = refl
 
 -- two parameters of five bits, and their quotient
-abbrev quotient : GFunction
+abbrev pub quotient : GFunction
 quotient = record {
   symbol = 0;
   values = 3;

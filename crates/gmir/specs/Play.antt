@@ -11,11 +11,10 @@ use Rattle.ir_meaning.specs.Step.{stack_start, copied, set}
 use Rattle.walks.specs.Walk.{Bits, Reply, Entry, Does, Goes, Asks, Gives, Wants, Breaks, Step, Walk}
 use Rattle.walks.specs.Bits.{free, cut, constant, number, low_exact, whole, and_bit, or_bit, xor_bit, bitwise, shifted, shift_left, shift_right, shift_right_signed, zero_extended, sign_extended, chosen, add_low, sub_low, mul_low, divide_signed, rest_signed, compared}
 use Rattle.walks.specs.Bytes.{bits_of_bytes, bytes_of_bits}
+use Rattle.walks.specs.Registers.{Registers, unwritten, read, put}
+use Rattle.walks.specs.Face.{frame_of}
 
 -- ---- registers
-
-abbrev pub Registers : Type 0
-Registers = ℕ → Bits
 
 abbrev pub width_of : GType → ℕ
 width_of (S w) = w
@@ -31,19 +30,6 @@ def_at i k = slice_index_or i.defs k 0
 
 abbrev pub use_at : GInst → ℕ → ℕ
 use_at i k = slice_index_or i.uses k 0
-
--- the bits of a register, where an instruction names it
-abbrev pub read : Registers → Option ℕ → Bits
-read regs None = free
-read regs (Some r) = regs r
-
-abbrev pub write : Registers → ℕ → Bits → Registers
-write regs r value x = if x == r then value else regs x
-
--- writes the first of these registers, where there is one
-abbrev pub put : Registers → List ℕ → Bits → Registers
-put regs [] a = regs
-put regs (d ∷ ds) a = write regs d a
 
 -- ---- what instructions are
 
@@ -299,12 +285,8 @@ step_at f s (i ∷ rest) = by_kind f s i rest (kind i.op)
 abbrev pub step : GFunction → State → Step State
 step f s = step_at f s s.rest
 
--- no register is written yet
 abbrev pub first : GFunction → Entry → State
-first f entry = record { args = entry.args; base_length = length entry.memory; block = 0; rest = insts_at f 0; regs = λ r. free; memory = entry.memory }
-
-abbrev pub frame_of : ℕ → ℕ
-frame_of n = 128 + 32 * n
+first f entry = record { args = entry.args; base_length = length entry.memory; block = 0; rest = insts_at f 0; regs = unwritten; memory = entry.memory }
 
 -- the entry weighs 160; it wants stack where the frame passes the start of the control stack
 abbrev pub enter : GFunction → Entry → Step State

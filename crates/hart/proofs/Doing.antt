@@ -42,7 +42,7 @@ held-given s i counted rd symbol [] = refl
 held-given s i counted rd symbol (Held symbol' base ∷ pass) = refl
 held-given s i counted rd symbol (Saw address word ∷ pass) = refl
 
-acts : (m : Meaning) (s : Machine) (counted : List ℕ) (pass : List Item) (i : Instr) (a : Act)
+pub acts : (m : Meaning) (s : Machine) (counted : List ℕ) (pass : List Item) (i : Instr) (a : Act)
     → cell_load m (asks s.regs i) ≡ None → serve m (stepped_to s i) (asks s.regs i) ≡ a
     → do_instr m (record { machine = s; pass = pass; counted = counted }) i ≡ after_act (record { machine = s; pass = pass; counted = counted }) a
 acts m s counted pass i a e f =

@@ -9,3 +9,6 @@ pub mod Laid
 pub mod Answering
 pub mod Samples
 pub mod Following
+pub mod Stepping
+pub mod Looping
+pub mod Entering

@@ -32,12 +32,12 @@ no_cell m Lhu rd a f e h = refl
 no_cell m Lwu rd a f e h = refl
 
 -- the tests behind a place
-first_found : (s t : Bool) (p q place : ℕ) → cond s (Bytes p) (cond t (Control q) Nowhere) ≡ Bytes place → (s ≡ true) × (place ≡ p)
+pub first_found : (s t : Bool) (p q place : ℕ) → cond s (Bytes p) (cond t (Control q) Nowhere) ≡ Bytes place → (s ≡ true) × (place ≡ p)
 first_found true t p q place h = (refl, let e : Bytes p ≡ Bytes place = h in cc)
 first_found false true p q place h = absurd (let bad : Control q ≡ Bytes place = h in cc)
 first_found false false p q place h = absurd (let bad : Nowhere ≡ Bytes place = h in cc)
 
-second_found : (s t : Bool) (p q place : ℕ) → cond s (Bytes p) (cond t (Control q) Nowhere) ≡ Control place → (s ≡ false) × (t ≡ true) × (place ≡ q)
+pub second_found : (s t : Bool) (p q place : ℕ) → cond s (Bytes p) (cond t (Control q) Nowhere) ≡ Control place → (s ≡ false) × (t ≡ true) × (place ≡ q)
 second_found true t p q place h = absurd (let bad : Bytes p ≡ Control place = h in cc)
 second_found false true p q place h = (refl, refl, let e : Control q ≡ Control place = h in cc)
 second_found false false p q place h = absurd (let bad : Nowhere ≡ Control place = h in cc)

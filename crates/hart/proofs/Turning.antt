@@ -64,7 +64,7 @@ at_code false false false true a b h = (refl, refl, refl, refl)
 at_code false false false false a b h = absurd (let bad : Nowhere ≡ Code = h in cc)
 
 -- a run that isn't at the exit and has fuel does its next instruction
-steps : (m : Meaning) (code_words : ℕ) (width : Option ℕ) (fuel left : ℕ) (r : Run) (x : Next) → at_exit r ≡ false → (left == 0) ≡ false
+pub steps : (m : Meaning) (code_words : ℕ) (width : Option ℕ) (fuel left : ℕ) (r : Run) (x : Next) → at_exit r ≡ false → (left == 0) ≡ false
     → Rattle.rv_play.specs.Ending.do_next m code_words r ≡ x → run m code_words width fuel left r ≡ goes_to (run m code_words width fuel (left - 1)) x
 steps m code_words width fuel zero r x e s f = absurd (let bad : true ≡ false = s in cc)
 steps m code_words width fuel (suc n) r x e s f =
@@ -143,7 +143,7 @@ waits_after h h' h'' w g s l k = record {
   fewer = let below = k.fewer in omega arith;
 }
 
-same_number : (n : ℕ) → (n == n) ≡ true
+pub same_number : (n : ℕ) → (n == n) ≡ true
 same_number n = grind arith
 
 -- the word that the hart waits for

@@ -3,3 +3,5 @@ pub mod Standing
 pub mod Calls
 pub mod Fixed
 pub mod Right
+pub mod Forms
+pub mod Steps

@@ -1,6 +1,7 @@
 // A hart's fields, and what passes between it and the code that serves it.
 ghost use Rattle.std.specs.Prelude.{◌≡◌, ◌≤◌, length};
 
+use crate::forms::Forms;
 use ir_meaning::calls::Ended;
 use rv_core::reg::Reg;
 use rv_core::step::Regs;
@@ -78,6 +79,7 @@ pub struct Hart {
     pub(crate) fuel: u64,
     pub(crate) left: u64,
     pub(crate) phase: Phase,
+    pub(crate) forms: Forms,
     ghost room: { length bytes.items ≤ 67108864 },
     ghost stack: { length control.items ≡ 8388608 },
     ghost known: { functions ≡ length widths.items },

@@ -5,11 +5,14 @@ mod bytes;
 mod execute;
 mod fabric;
 mod fixed;
+mod form;
+mod forms;
 mod hart;
 pub mod laws;
 mod map;
 mod run;
 mod start;
+mod step;
 #[cfg(test)]
 mod tests;
 mod turn;

@@ -1,9 +1,10 @@
 // The address map: where data memory, the control stack, cells, stubs and code stand.
-ghost use Rattle.std.specs.Prelude.{◌≡◌, ◌<◌, ◌≤◌, ◌*◌, ◌+◌, ◌^◌, IfSome};
+ghost use Rattle.std.specs.Prelude.{◌≡◌, ◌<◌, ◌≤◌, ◌*◌, ◌+◌, ◌^◌, ◌-◌, ◌%◌, ◌==◌, ◌&&◌, nat_le, nat_lt, IfSome};
 ghost use Rattle.rv_core.specs.Instr.{IsValid};
 ghost use Rattle.rv_core.specs.declared.instr.Instr.{Instr};
+ghost use Rattle.rv_play.specs.Machine.{code_base, stub_base, stub_of};
 ghost use Rattle.rv_play.specs.Ending.{stub_instr, upper, lower};
-ghost use Rattle.hart.specs.Places.{found_at, symbol_of_cell};
+ghost use Rattle.hart.specs.Places.{found_at, is_within, symbol_of_cell};
 
 use rv_core::instr::{ImmOp, Instr, LoadOp};
 use rv_core::reg::Reg;
@@ -49,18 +50,41 @@ pub fn find(bytes: usize, control: usize, address: u64, size: u64) -> Found
     requires size { size ≤ 8 }
     ensures { result ≡ found_at bytes control address size }
 {
-    let bytes = bytes as u64;
-    let control = control as u64;
-    if DATA <= address && address <= DATA + bytes && size <= DATA + bytes - address {
-        Found::Bytes((address - DATA) as usize)
-    } else if CONTROL <= address
-        && address <= CONTROL + control
-        && size <= CONTROL + control - address
-    {
+    if is_in(CONTROL, control as u64, address, size) {
         Found::Control((address - CONTROL) as usize)
+    } else if is_in(DATA, bytes as u64, address, size) {
+        Found::Bytes((address - DATA) as usize)
     } else {
         Found::Nowhere
     }
+}
+
+// Whether so many bytes from an address on stand wholly in a region.
+#[inline(always)]
+fn is_in(base: u64, length: u64, address: u64, size: u64) -> bool
+    requires base { base ≤ 1073741824 }
+    requires length { length ≤ 67108864 }
+    requires size { size ≤ 8 }
+    ensures { result ≡ is_within base length address size }
+{
+    size <= length && address.wrapping_sub(base) <= length - size
+}
+
+/// Whether a code word stands at an address, in code that ends at a limit.
+#[inline(always)]
+pub fn is_code(limit: u64, address: u64) -> bool
+    ensures { result ≡ ((nat_le code_base address) && ((nat_lt address limit) && (address % 4 == 0))) }
+{
+    CODE <= address && address < limit && address % 4 == 0
+}
+
+/// Whether a symbol's stub begins at an address.
+#[inline(always)]
+pub fn is_stub(functions: u32, address: u64) -> bool
+    requires { functions ≤ 1024 }
+    ensures { result ≡ ((nat_le stub_base address) && ((nat_lt address (stub_of functions)) && ((address - stub_base) % 16 == 0))) }
+{
+    STUBS <= address && address < STUBS + 16 * functions as u64 && (address - STUBS) % 16 == 0
 }
 
 /// The symbol whose cell a load of an address reads, if it is such a load.

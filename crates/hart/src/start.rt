@@ -6,6 +6,7 @@ ghost use Rattle.rv_play.specs.Ending.{start_regs};
 ghost use Rattle.hart.specs.Standing.{IsFor};
 ghost use Rattle.hart.specs.Calls.{Stands, HasRoomFor, IsCall, IsNew, AreZeros, origin_of, with_image, with_bytes};
 
+use crate::forms::Forms;
 use crate::hart::{Hart, Image, Phase};
 use crate::map::{CONTROL_END, DATA, EXIT, STUBS};
 use ir_meaning::calls::ListedCall;
@@ -21,6 +22,7 @@ impl Hart {
     {
         let bytes = zeros(alloc, room as usize)?;
         let control = zeros(alloc, 8_388_608)?;
+        let forms = Forms::new(alloc)?;
         Ok(Hart {
             regs: Regs { x: [0; 32], pc: 0 },
             bytes,
@@ -32,6 +34,7 @@ impl Hart {
             fuel: 0,
             left: 0,
             phase: Phase::Idle,
+            forms,
         })
     }
 

@@ -8,6 +8,7 @@ ghost use Rattle.rv_encode.specs.Reading.{instr_of};
 ghost use Rattle.hart.specs.declared.hart.Did.{Did};
 ghost use Rattle.hart.specs.Standing.{IsFor, IsSameCall, IsAllowed, IsAsked, Continues, Waits, Turns, machine_of, run_of, next_of, goes_on, rest_of, wanted_by, with_counted, at_of, turns_left, HasGone, HasTurned, WantsSome, IsGiven, IsNext, Turned, item_of};
 ghost use Rattle.hart.specs.Calls.{Origin, Stands};
+ghost use Rattle.hart.specs.Steps.{standing_at};
 
 use crate::hart::{Did, Given, Hart, Phase, Wanted};
 use crate::map::{At, CODE, EXIT, STUBS, stub_word};
@@ -218,6 +219,28 @@ impl Hart {
                 false
             }
         }
+    }
+
+    // The same for a hart that stands at an address, with so many instructions left.
+    #[inline(never)]
+    pub(crate) fn take_next_at(&mut self, pc: u64, left: u64, word: u32) -> bool
+        requires { self.old.phase ≡ Phase.Fetch }
+        ensures turned { HasTurned (standing_at pc left self.old) self.new (Saw pc word ∷ []) }
+        ensures word { result ≡ true → self.new.phase ≡ Phase.Fetch }
+    {
+        self.regs.pc = pc;
+        self.left = left;
+        self.take_next(word)
+    }
+
+    // Goes on from an address, with so many instructions left, to where the hart wants something.
+    #[inline(never)]
+    pub(crate) fn go_on_at(&mut self, pc: u64, left: u64) -> Wanted
+        ensures { Waits (standing_at pc left self.old) self.new result }
+    {
+        self.regs.pc = pc;
+        self.left = left;
+        self.go_on()
     }
 
     // The word at the program counter has been given, and spells nothing.

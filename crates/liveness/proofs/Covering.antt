@@ -93,7 +93,7 @@ module _ (f : MFunction) (well : IsWellFormed f) (search : Search) (written : Li
 
   between : (r low point high : ℕ) → low ≤ point → point ≤ high → HasPoint search r low → HasPoint search r high → HasPoint search r point
   between r low point high from to (first, last, is, a, b) (first', last', is', a', b') =
-      let same : (first, last) ≡ (first', last') = one_span (first, last) (first', last') (sym is ∙ is') in
+      let same : ◌≡◌ {A = ℕ × ℕ} (first, last) (first', last') = one_span (first, last) (first', last') (sym is ∙ is') in
       let last_same : last ≡ last' = ap (λ (span : ℕ × ℕ). span.1) same in
       (first, last, is, omega (arith, a, from), omega (arith, b', to, last_same))
 

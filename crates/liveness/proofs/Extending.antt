@@ -1,13 +1,15 @@
 -- Steps of the search only add to what is known.
-use Rattle.std.proofs.Common.{◌≡◌, ◌≢◌, ℕ, ◌<◌, ◌≤◌, ◌⊎◌, inl, inr, min, max, Bool, true, false, List, [], ◌∷◌, ◌++◌, length, get_or, set, Option, Some, None, arith, refl, ap, sym, ◌∙◌}
-use Rattle.std.specs.Prelude.{unwrap_or}
+use Rattle.std.proofs.Common.{◌≡◌, ◌≢◌, ℕ, ◌+◌, ◌<◌, ◌≤◌, ◌⊎◌, inl, inr, min, max, Bool, true, false, List, [], ◌∷◌, ◌++◌, length, get_or, set, Option, Some, None, arith, refl, ap, sym, ◌∙◌}
+use Rattle.std.specs.Prelude.{unwrap_or, sum_by, if◌then◌else◌}
 use Rattle.std.proofs.Math.Nat.{min-le_left, min-le_right, le-max_left, le-max_right}
 use Rattle.std.proofs.lemmas.List.{length-set, get_or-set_same, get_or-set_other}
+use Rattle.std.proofs.lemmas.List.{length_push}
+use Rattle.std.proofs.lemmas.List.Sums.{sum_by-set}
 use Rattle.std.proofs.lemmas.List.Elements.{Contains-push, Contains-push_cases, Contains-append_left}
 use Rattle.std.proofs.lemmas.Bool.{cases_eq}
 use Rattle.rj_num.specs.Sets.{has}
 use Rattle.liveness.specs.declared.search.Search.{Search}
-use Rattle.liveness.specs.Search.{hull_of, HasPoint, IsFound, Grows, Extends, IsSized}
+use Rattle.liveness.specs.Search.{hull_of, HasPoint, IsFound, IsEnd, missing, looks_left, Grows, Extends, Adds, IsSized}
 
 pub one_span : (one other : ℕ × ℕ) → Some one ≡ Some other → one ≡ other
 one_span one other e = ap (λ o. unwrap_or o one) e
@@ -36,6 +38,7 @@ extends_itself s = record {
   work = λ x h. h;
   listed = λ b r h. inl h;
   real = λ x h. inl h;
+  once = refl;
 }
 
 pub extends_then : (a b c : Search) → Extends a b → Extends b c → Extends a c
@@ -50,6 +53,25 @@ extends_then a b c one two = record {
     | inl before ↦ elim (one.real x before) [ inl old ↦ inl old | inr there ↦ inr (two.grows.found x.1 x.0 there) ]
     | inr there ↦ inr there
   ];
+  once = two.once ∙ one.once;
+}
+
+-- nothing was added
+pub adds_itself : (points pairs : ℕ → ℕ → Type 0) (s : Search) → Adds points pairs s s
+adds_itself points pairs s = record { ends = λ r at h. inl h; finds = λ b r h. inl h }
+
+pub adds_then : (points pairs : ℕ → ℕ → Type 0) (a b c : Search) → Adds points pairs a b → Adds points pairs b c → Adds points pairs a c
+adds_then points pairs a b c one two = record {
+  ends = λ r at h. elim (two.ends r at h) [ inl was ↦ one.ends r at was | inr here ↦ inr here ];
+  finds = λ k r h. elim (two.finds k r h) [ inl was ↦ one.finds k r was | inr here ↦ inr here ];
+}
+
+-- bounds may be wider
+pub adds_within : (points pairs wider_points wider_pairs : ℕ → ℕ → Type 0) (a b : Search) → ((r at : ℕ) → points r at → wider_points r at)
+    → ((k r : ℕ) → pairs k r → wider_pairs k r) → Adds points pairs a b → Adds wider_points wider_pairs a b
+adds_within points pairs wider_points wider_pairs a b all_points all_pairs is = record {
+  ends = λ r at h. elim (is.ends r at h) [ inl was ↦ inl was | inr here ↦ inr (all_points r at here) ];
+  finds = λ k r h. elim (is.finds k r h) [ inl was ↦ inl was | inr here ↦ inr (all_pairs k r here) ];
 }
 
 pub sized_then : (old new : Search) (blocks regs : ℕ) → Grows old new → IsSized old blocks regs → IsSized new blocks regs
@@ -63,6 +85,20 @@ sized_then old new blocks regs extends sized = record {
 own_point : (span : Option (ℕ × ℕ)) (point : ℕ) → ((hull_of span point).0 ≤ point) × (point ≤ (hull_of span point).1)
 own_point None point = (omega arith, omega arith)
 own_point (Some span) point = (min-le_right span.0 point, le-max_right span.1 point)
+
+-- an end of the hull is the point or was an end before
+hull_end : (span : Option (ℕ × ℕ)) (point at : ℕ) → (at ≡ (hull_of span point).0) ⊎ (at ≡ (hull_of span point).1)
+    → (at ≡ point) ⊎ ((first : ℕ) × (last : ℕ) × (span ≡ Some (first, last)) × ((at ≡ first) ⊎ (at ≡ last)))
+hull_end None point at (inl e) = inl e
+hull_end None point at (inr e) = inl e
+hull_end (Some span) point at (inl e) = elim (cases_eq at point) [
+  | inl same ↦ inl same
+  | inr differs ↦ inr (span.0, span.1, refl, inl (omega (arith, e, differs)))
+]
+hull_end (Some span) point at (inr e) = elim (cases_eq at point) [
+  | inl same ↦ inl same
+  | inr differs ↦ inr (span.0, span.1, refl, inr (omega (arith, e, differs)))
+]
 
 module _ (old new : Search) (r point : ℕ) (within : r < length old.spans.items)
     (spans : new.spans.items ≡ set old.spans.items r (Some (hull_of (get_or old.spans.items r None) point)))
@@ -97,13 +133,31 @@ module _ (old new : Search) (r point : ℕ) (within : r < length old.spans.items
     work = λ x h. rw work h;
     listed = λ b q h. inl (rw live at h);
     real = λ x h. inl (rw work at h);
+    once = rw (live, work) refl;
   }
+
+  end_was : (q at : ℕ) → IsEnd new q at → IsEnd old q at ⊎ ((q ≡ r) × (at ≡ point))
+  end_was q at (first, last, is, end) = elim (cases_eq q r) [
+    | inl same ↦
+        let hull : (hull_of (get_or old.spans.items r None) point) ≡ (first, last) =
+        one_span (hull_of (get_or old.spans.items r None) point) (first, last) (sym own_span ∙ rw same at is) in
+        let e : (at ≡ (hull_of (get_or old.spans.items r None) point).0) ⊎ (at ≡ (hull_of (get_or old.spans.items r None) point).1) = rw hull end in
+        elim (hull_end (get_or old.spans.items r None) point at e) [
+          | inl own ↦ inr (same, own)
+          | inr was ↦ inl (rw same was)
+        ]
+    | inr differs ↦
+        inl (first, last, sym (rw spans (get_or-set_other old.spans.items r q (Some (hull_of (get_or old.spans.items r None) point)) None differs)) ∙ is, end)
+  ]
+
+  pub held_adds : Adds (λ q at. (q ≡ r) × (at ≡ point)) (λ b q. ⊥) old new
+  held_adds = record { ends = end_was; finds = λ b q h. inl (rw live at h) }
 
 -- what a set has once a number was added
 pub has_set : (flags : List Bool) (r q : ℕ) → has (set flags r true) q ≡ true → (q ≡ r) ⊎ (has flags q ≡ true)
 has_set flags r q h = elim (cases_eq q r) [ inl e ↦ inl e | inr differs ↦ inr (sym (get_or-set_other flags r q true false differs) ∙ h) ]
 
-has_still : (flags : List Bool) (r q : ℕ) → r < length flags → has flags q ≡ true → has (set flags r true) q ≡ true
+pub has_still : (flags : List Bool) (r q : ℕ) → r < length flags → has flags q ≡ true → has (set flags r true) q ≡ true
 has_still flags r q within h = elim (cases_eq q r) [
   | inl e ↦ rw e (get_or-set_same flags r true false within)
   | inr differs ↦ get_or-set_other flags r q true false differs ∙ h
@@ -150,7 +204,26 @@ module _ (old new : Search) (r block : ℕ) (within : block < length old.live.it
     found = found_still;
   }
 
-  module _ (work : new.work.items ≡ old.work.items ++ (r, block) ∷ []) where
+  pub reached_adds : Adds (λ q at. ⊥) (λ b q. (b ≡ block) × (q ≡ r)) old new
+  reached_adds = record { ends = λ q at h. inl (rw spans at h); finds = found_was }
+
+  -- the pair was missing, or nothing has changed
+  missing_less : sum_by missing new.live.items + (if has (get_or old.live.items block []) r then 0 else 1) ≡ sum_by missing old.live.items
+  missing_less =
+      let sets : sum_by missing new.live.items + missing (get_or old.live.items block [])
+      ≡ sum_by missing old.live.items + missing (set (get_or old.live.items block []) r true) =
+      rw live (sum_by-set missing old.live.items block (set (get_or old.live.items block []) r true) [] within) in
+      let flags : missing (set (get_or old.live.items block []) r true) + (if has (get_or old.live.items block []) r then 0 else 1)
+      ≡ missing (get_or old.live.items block []) + 0 =
+      sum_by-set (λ (flag : Bool). if flag then 0 else 1) (get_or old.live.items block []) r true false inside in
+      omega (arith, sets, flags)
+
+  module _ (work : new.work.items ≡ old.work.items ++ (r, block) ∷ []) (was_missing : has (get_or old.live.items block []) r ≡ false) where
+    once_more : looks_left new ≡ looks_left old
+    once_more =
+        let less : sum_by missing new.live.items + 1 ≡ sum_by missing old.live.items = rw was_missing at missing_less in
+        omega (arith, less, ap length work, length_push old.work.items (r, block))
+
     pub reached_new : Extends old new
     reached_new = record {
       grows = reached_grows;
@@ -163,9 +236,15 @@ module _ (old new : Search) (r block : ℕ) (within : block < length old.live.it
         | inl was ↦ inl was
         | inr same ↦ inr (rw (← same) reached_found)
       ];
+      once = once_more;
     }
 
   module _ (work : new.work.items ≡ old.work.items) (was_there : IsFound old block r) where
+    once_still : looks_left new ≡ looks_left old
+    once_still =
+        let same : sum_by missing new.live.items + 0 ≡ sum_by missing old.live.items = rw was_there at missing_less in
+        omega (arith, same, ap length work)
+
     pub reached_old : Extends old new
     reached_old = record {
       grows = reached_grows;
@@ -175,4 +254,5 @@ module _ (old new : Search) (r block : ℕ) (within : block < length old.live.it
         | inr same ↦ inl (rw (same.0, same.1) was_there)
       ];
       real = λ x h. inl (rw work at h);
+      once = once_still;
     }

@@ -1,5 +1,5 @@
 -- Numbers of blocks and their sources, one block after another.
-use Rattle.std.proofs.Common.{◌≡◌, ℕ, zero, suc, ◌+◌, ◌<◌, ◌≤◌, inl, inr, List, [], ◌∷◌, ◌++◌, length, replicate, get_or, set, take, arith, refl, ap, sym, ◌∙◌}
+use Rattle.std.proofs.Common.{◌≡◌, ℕ, zero, suc, ◌+◌, ◌<◌, ◌≤◌, ◌⊎◌, inl, inr, List, [], ◌∷◌, ◌++◌, length, replicate, get_or, set, take, arith, refl, ap, sym, ◌∙◌}
 use Rattle.std.specs.List.{Contains}
 use Rattle.std.proofs.lemmas.List.{length-set, get_or-set_same, get_or-set_other, get_or_append_left, get_or_push, length_push, length-replicate}
 use Rattle.std.proofs.lemmas.List.Elements.{Contains-push, Contains-push_cases, Contains-append_left}
@@ -7,7 +7,7 @@ use Rattle.std.proofs.lemmas.Bool.{cases_eq}
 use Rattle.mir.specs.declared.code.MInst.{MInst}
 use Rattle.mir.specs.Code.{count_before}
 use Rattle.liveness.specs.Scan.{IsNumbering, AddsSource, AreSources, last_targets}
-use Rattle.liveness.proofs.Noting.{front_or_next, no_items}
+use Rattle.liveness.proofs.Noting.{front_or_next, in_front, in_next, no_items}
 use Rattle.liveness.proofs.Reading.{earlier_or_here}
 
 pub no_numbers : (blocks : List (List MInst)) → IsNumbering blocks 0 (0 ∷ [])
@@ -54,6 +54,11 @@ module _ (old now : List (List ℕ)) (xs : List ℕ) (from i : ℕ) (below : i <
     | inr differs ↦ rw (get_or-set_other now (get_or xs i 0) to next [] differs) in'
   ]
 
+  wider : (to x : ℕ) → Contains (get_or old to []) x ⊎ ((x ≡ from) × Contains (take i xs) to)
+      → Contains (get_or old to []) x ⊎ ((x ≡ from) × Contains (take (i + 1) xs) to)
+  wider to x (inl was) = inl was
+  wider to x (inr (e, front)) = inr (e, in_front xs i to below front)
+
   pub source_more : AddsSource old (take (i + 1) xs) from (set now (get_or xs i 0) next)
   source_more = record {
     size = length-set now (get_or xs i 0) next ∙ is.size;
@@ -64,10 +69,10 @@ module _ (old now : List (List ℕ)) (xs : List ℕ) (from i : ℕ) (below : i <
     ];
     only = λ to x in'. elim (cases_eq to (get_or xs i 0)) [
       | inl same ↦ elim (Contains-push_cases (get_or now (get_or xs i 0) []) from x (rw (same, own) at in')) [
-        | inl was ↦ is.only to x (rw same was)
-        | inr e ↦ inr (sym e)
+        | inl was ↦ wider to x (is.only to x (rw same was))
+        | inr e ↦ inr (sym e, rw same (in_next xs i below))
       ]
-      | inr differs ↦ is.only to x (rw (get_or-set_other now (get_or xs i 0) to next [] differs) at in')
+      | inr differs ↦ wider to x (is.only to x (rw (get_or-set_other now (get_or xs i 0) to next [] differs) at in'))
     ];
   }
 
@@ -95,7 +100,7 @@ sources_more blocks i old new are adds = record {
     | inr here ↦ rw here (adds.added to (rw here at in'))
   ];
   only = λ from to in'. elim (adds.only to from in') [
-    | inl was ↦ let low : from < i = are.only from to was in omega (arith, low)
-    | inr here ↦ omega (arith, here)
+    | inl was ↦ let low : from < i = (are.only from to was).0 in (omega (arith, low), (are.only from to was).1)
+    | inr here ↦ (omega (arith, here.0), rw here.0 here.1)
   ];
 }

@@ -12,6 +12,7 @@ read_kept s t grows written block number count first is = record {
   reads_found = λ j inst r below at in'. elim (is.reads_found j inst r below at in') [ inl before ↦ inl before | inr found ↦ inr (grows.found number r found) ];
   writes_held = λ j inst r below at in'. grows.points r _ (is.writes_held j inst r below at in');
   exact = is.exact;
+  all = is.all;
 }
 
 pub all_kept : (s t : Search) → Grows s t → (written : List (List Bool)) (blocks : List (List MInst)) (count : ℕ)

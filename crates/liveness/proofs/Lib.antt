@@ -4,6 +4,7 @@ mod Noting
 mod Reading
 mod Graphing
 mod Starting
-mod Samples
 mod Looking
 mod Covering
+mod Tight
+mod Determined

@@ -1,15 +1,16 @@
 -- One instruction of a block more, and one block more.
-use Rattle.std.proofs.Common.{◌≡◌, ℕ, ◌+◌, ◌*◌, ◌<◌, ◌≤◌, ◌⊎◌, inl, inr, Bool, true, List, [], ◌∷◌, ◌++◌, length, get_or, Some, arith, ap, sym, ◌∙◌}
+use Rattle.std.proofs.Common.{◌≡◌, ℕ, ◌+◌, ◌*◌, ◌<◌, ◌≤◌, ◌⊎◌, inl, inr, Bool, true, false, List, [], ◌∷◌, ◌++◌, length, get_or, Some, arith, ap, sym, ◌∙◌}
 use Rattle.std.specs.Prelude.{slice_get, unwrap_or}
 use Rattle.std.specs.List.{Contains}
 use Rattle.std.proofs.lemmas.List.{get_or_append_left, get_or_push, length_push}
+use Rattle.std.proofs.lemmas.Bool.{false≢true}
 use Rattle.rj_num.specs.Sets.{has}
 use Rattle.mir.specs.declared.code.MInst.{MInst}
 use Rattle.mir.specs.Code.{reads, writes, count_before}
 use Rattle.liveness.specs.declared.search.Search.{Search}
-use Rattle.liveness.specs.Search.{Grows, IsSized}
-use Rattle.liveness.specs.Scan.{IsWrittenBefore, IsRead, AreRead, ReadsInst, HaveSizes}
-use Rattle.liveness.proofs.Extending.{grows_then, sized_then}
+use Rattle.liveness.specs.Search.{Grows, Adds, IsSized}
+use Rattle.liveness.specs.Scan.{IsWrittenBefore, IsReadFirst, IsUsedIn, IsNeeded, read_within, IsUse, used, IsRead, AreRead, ReadsInst, HaveSizes}
+use Rattle.liveness.proofs.Extending.{grows_then, sized_then, adds_then, adds_within}
 use Rattle.liveness.proofs.Kept.{read_kept}
 
 pub earlier_or_here : (j i : ℕ) → j < i + 1 → (j < i) ⊎ (j ≡ i)
@@ -25,6 +26,7 @@ nothing_read s written none' block number first = record {
   reads_found = λ j inst r below at in'. absurd (omega arith);
   writes_held = λ j inst r below at in'. absurd (omega arith);
   exact = λ r h. absurd (none' r h);
+  all = λ r h. absurd (omega (arith, h.2));
 }
 
 written_later : (block : List MInst) (i k r : ℕ) → i ≤ k → IsWrittenBefore block i r → IsWrittenBefore block k r
@@ -53,6 +55,7 @@ inst_more s u written after block number i first point inst point_is at is step 
     | inl was ↦ written_later block i (i + 1) r (omega arith) (is.exact r was)
     | inr in' ↦ (i, inst, omega arith, at, in')
   ];
+  all = written_now;
 }
   where
     old : IsRead u written block number i first
@@ -62,6 +65,54 @@ inst_more s u written after block number i first point inst point_is at is step 
     mine f j other r here there in' =
         let same : other ≡ inst = one_inst other inst (sym there ∙ ap (λ k. slice_get block k) here ∙ at) in
         rw (← same) in'
+
+    written_now : (r : ℕ) → IsWrittenBefore block (i + 1) r → has after r ≡ true
+    written_now r (j, other, below, there, in') = elim (earlier_or_here j i below) [
+      | inl before ↦ step.wrote.all r (inl (is.all r (j, other, before, there, in')))
+      | inr here ↦ step.wrote.all r (inr (mine (λ x. writes x) j other r here there in'))
+    ]
+
+-- what reading one instruction more adds
+pub inst_adds : (old s u : Search) (written after : List Bool) (block : List MInst) (number i first point : ℕ) (inst : MInst)
+    → point ≡ 2 * (first + i) → slice_get block i ≡ Some inst → IsRead s written block number i first
+    → ReadsInst s written inst number point u after → Adds (IsUsedIn block i first) (λ b r. (b ≡ number) × IsReadFirst block i r) old s
+    → Adds (IsUsedIn block (i + 1) first) (λ b r. (b ≡ number) × IsReadFirst block (i + 1) r) old u
+inst_adds old s u written after block number i first point inst point_is at is step before =
+    adds_then points pairs old s u (adds_within _ _ points pairs old s points_before pairs_before before)
+    (adds_then points pairs s step.between u (adds_within _ _ points pairs s step.between points_read pairs_read step.noted.adds)
+    (adds_within _ _ points pairs step.between u points_written (λ b r h. absurd h) step.wrote.adds))
+  where
+    points : ℕ → ℕ → Type 0
+    points = IsUsedIn block (i + 1) first
+
+    pairs : ℕ → ℕ → Type 0
+    pairs b r = (b ≡ number) × IsReadFirst block (i + 1) r
+
+    points_before : (r there : ℕ) → IsUsedIn block i first r there → points r there
+    points_before r there (j, other, below, is', h) = (j, other, omega (arith, below), is', h)
+
+    pairs_before : (b r : ℕ) → (b ≡ number) × IsReadFirst block i r → pairs b r
+    pairs_before b r (e, h) = (e, (h.0, h.1, omega (arith, h.2), h.3, h.4, h.5))
+
+    points_read : (r there : ℕ) → Contains (reads inst) r × (there ≡ point) → points r there
+    points_read r there (in', e) = (i, inst, omega arith, at, inl (in', e ∙ point_is))
+
+    pairs_read : (b r : ℕ) → (b ≡ number) × Contains (reads inst) r × (has written r ≡ false) → pairs b r
+    pairs_read b r (e, in', unwritten) = (e, (i, inst, omega arith, at, in', λ w. false≢true (sym unwritten ∙ is.all r w)))
+
+    points_written : (r there : ℕ) → Contains (writes inst) r × (there ≡ point + 1) → points r there
+    points_written r there (in', e) = (i, inst, omega arith, at, inr (in', omega (arith, e, point_is)))
+
+-- what reading one block more adds
+pub block_adds : (old s t : Search) (blocks : List (List MInst)) (i : ℕ) → Adds (IsUse blocks) (λ b r. IsNeeded blocks r b) old s
+    → Adds (IsUsedIn (get_or blocks i []) (length (get_or blocks i [])) (count_before blocks i))
+    (λ b r. (b ≡ i) × IsReadFirst (get_or blocks i []) (length (get_or blocks i [])) r) s t
+    → Adds (IsUse blocks) (λ b r. IsNeeded blocks r b) old t
+block_adds old s t blocks i before own = adds_then (IsUse blocks) (λ b r. IsNeeded blocks r b) old s t before
+    (adds_within _ _ (IsUse blocks) (λ b r. IsNeeded blocks r b) s t (λ r at h. used i at h) needed own)
+  where
+    needed : (b r : ℕ) → (b ≡ i) × IsReadFirst (get_or blocks i []) (length (get_or blocks i [])) r → IsNeeded blocks r b
+    needed b r (e, h) = rw e (read_within i h)
 
 -- one block more was read
 pub block_more : (s t : Search) (written : List (List Bool)) (set : List Bool) (blocks : List (List MInst)) (i : ℕ) → length written ≡ i

@@ -1,3 +1,3 @@
 pub mod Search
 pub mod Scan
-pub mod Samples
+pub mod Laws

@@ -1,7 +1,7 @@
 // The spans of a function's registers.
 ghost use Rattle.std.specs.Prelude.{◌≡◌, ℕ, ◌<◌, [], length, slice_index_or, IfOk};
 ghost use Rattle.mir.specs.WellFormed.{IsWellFormed, HasNoPhi};
-ghost use Rattle.mir.specs.Live.{Covers};
+ghost use Rattle.mir.specs.Live.{Covers, IsTight};
 ghost use Rattle.liveness.specs.Scan.{HasTargets, HasRegisters, IsFinished};
 
 use crate::graph::{LIMIT, numbers, sources};
@@ -19,7 +19,8 @@ fn finished(alloc: Global, blocks: &[Items<MInst>], regs: u32) -> Result<Search,
     requires count { length blocks.now < 2147483648 }
     requires targets { HasTargets blocks.now }
     requires registers { (b : ℕ) → HasRegisters regs (slice_index_or blocks.now b []) }
-    ensures { IfOk result (λ search. IsFinished blocks.now search) }
+    ensures finished { IfOk result (λ search. IsFinished blocks.now search) }
+    ensures size { IfOk result (λ search. length search.spans.items ≡ regs) }
 {
     let table = numbers(alloc, blocks)?;
     let leads = sources(alloc, blocks)?;
@@ -35,12 +36,14 @@ fn finished(alloc: Global, blocks: &[Items<MInst>], regs: u32) -> Result<Search,
     Ok(search)
 }
 
-/// For each register a span that contains each point at which it is live or written. Where the points of a function's
-/// instructions don't fit `u32`, from 2,147,483,648 instructions on, the answer is as for want of memory.
+/// For each register the span from the first to the last point at which it is live or written, where there is one. Where the points of a
+/// function's instructions don't fit `u32`, from 2,147,483,648 instructions on, the answer is as for want of memory.
 pub fn intervals(alloc: Global, function: &MFunction) -> Result<Intervals, NoMemory>
     requires well_formed { IsWellFormed function.now }
     requires no_phi { HasNoPhi function.now }
-    ensures { IfOk result (λ intervals. Covers function.now intervals) }
+    ensures covers { IfOk result (λ intervals. Covers function.now intervals) }
+    ensures tight { IfOk result (λ intervals. IsTight function.now intervals) }
+    ensures size { IfOk result (λ intervals. length intervals.spans ≡ function.now.regs) }
 {
     let blocks = function.blocks.as_slice();
     if blocks.len() >= LIMIT {

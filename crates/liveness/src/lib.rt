@@ -3,6 +3,7 @@
 
 mod graph;
 pub mod intervals;
+pub mod laws;
 mod scan;
 mod search;
 mod spread;

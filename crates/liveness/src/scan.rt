@@ -3,8 +3,8 @@ ghost use Rattle.std.specs.Prelude.{◌≡◌, ℕ, ◌+◌, ◌*◌, ◌<◌, �
 ghost use Rattle.std.specs.List.{Contains};
 ghost use Rattle.rj_num.specs.Sets.{has};
 ghost use Rattle.mir.specs.Code.{reads, writes};
-ghost use Rattle.liveness.specs.Search.{HasPoint, IsFound, Extends, IsSized};
-ghost use Rattle.liveness.specs.Scan.{NotesReads, NotesWrites, ReadsInst, HasRegisters, IsRead, IsNumbering, AreRead, HaveSizes};
+ghost use Rattle.liveness.specs.Search.{HasPoint, IsFound, Extends, Adds, IsSized};
+ghost use Rattle.liveness.specs.Scan.{NotesReads, NotesWrites, ReadsInst, HasRegisters, IsRead, IsReadFirst, IsUsedIn, IsNeeded, IsUse, IsNumbering, AreRead, HaveSizes};
 
 use crate::search::Search;
 use mir::code::MInst;
@@ -89,6 +89,7 @@ fn scan_block(
     ensures extends { OnOk result (Extends search.old search.new) }
     ensures size { IfOk result (λ written. length written ≡ regs) }
     ensures read { IfOk result (λ written. IsRead search.new written insts.now block (length insts.now) first) }
+    ensures adds { OnOk result (Adds (IsUsedIn insts.now (length insts.now) first) (λ b r. (b ≡ block) × IsReadFirst insts.now (length insts.now) r) search.old search.new) }
 {
     let mut written = ValueSet::new(alloc, regs)?;
     for place in 0..insts.len() {
@@ -122,6 +123,7 @@ pub fn scan(
     ensures extends { OnOk result (Extends search.old search.new) }
     ensures sizes { IfOk result (λ written. HaveSizes (length blocks.now) regs written.items) }
     ensures read { IfOk result (λ written. AreRead search.new written.items blocks.now (length blocks.now)) }
+    ensures adds { OnOk result (Adds (IsUse blocks.now) (λ b r. IsNeeded blocks.now r b) search.old search.new) }
 {
     let mut list = Vec::new(alloc);
     let mut written = Vec::new(alloc);

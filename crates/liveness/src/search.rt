@@ -1,7 +1,7 @@
 // Spans that grow, and the registers that were found live where blocks begin.
-ghost use Rattle.std.specs.Prelude.{◌≡◌, ℕ, ◌<◌, ◌⊎◌, true, false, [], ◌∷◌, ◌++◌, None, length, not, replicate, slice_index_or, slice_set, IfOk, OnOk, MatchOption};
+ghost use Rattle.std.specs.Prelude.{◌≡◌, ℕ, ◌+◌, ◌<◌, ◌⊎◌, true, false, [], ◌∷◌, ◌++◌, None, length, not, replicate, slice_index_or, slice_set, IfOk, OnOk, MatchOption};
 ghost use Rattle.rj_num.specs.Sets.{has};
-ghost use Rattle.liveness.specs.Search.{hull_of, HasPoint, IsFound, Extends, StartsEmpty};
+ghost use Rattle.liveness.specs.Search.{hull_of, HasPoint, IsFound, Extends, Adds, looks_left, StartsEmpty};
 
 use mir::places::Intervals;
 use rj_num::NoMemory;
@@ -106,17 +106,19 @@ impl Search {
         requires { register < length self.old.spans.items }
         ensures extends { Extends self.old self.new }
         ensures holds { HasPoint self.new register point }
+        ensures adds { Adds (λ r at. (r ≡ register) × (at ≡ point)) (λ b r. ⊥) self.old self.new }
     {
         take_in(&mut self.spans, register, point);
     }
 
     /// The register is live where the block begins.
-    #[tactic(auto, using(crate::proofs::Extending::reached_new, crate::proofs::Extending::reached_old, crate::proofs::Extending::reached_found))]
+    #[tactic(auto, using(crate::proofs::Extending::reached_old, crate::proofs::Extending::reached_found, crate::proofs::Extending::reached_adds))]
     pub fn reach(&mut self, register: u32, block: u32) -> Result<(), NoMemory>
         requires block { block < length self.old.live.items }
         requires register { register < length (slice_index_or self.old.live.items block []) }
         ensures extends { OnOk result (Extends self.old self.new) }
         ensures found { OnOk result (IsFound self.new block register) }
+        ensures adds { OnOk result (Adds (λ r at. ⊥) (λ b r. (b ≡ block) × (r ≡ register)) self.old self.new) }
     {
         let is_new = mark(&mut self.live, block, register);
         if !is_new {
@@ -140,6 +142,7 @@ impl Search {
         requires register { register < length (slice_index_or self.old.live.items block []) }
         ensures extends { OnOk result (Extends self.old self.new) }
         ensures found { OnOk result ((has written.now register ≡ true) ⊎ IsFound self.new block register) }
+        ensures adds { OnOk result (Adds (λ r at. ⊥) (λ b r. (b ≡ block) × (r ≡ register) × (has written.now register ≡ false)) self.old self.new) }
     {
         if written.contains(register) {
             return Ok(());
@@ -152,6 +155,7 @@ impl Search {
         ensures spans { self.new.spans.items ≡ self.old.spans.items }
         ensures live { self.new.live.items ≡ self.old.live.items }
         ensures work { MatchOption result ((self.old.work.items ≡ []) × (self.new.work.items ≡ [])) (λ pair. self.old.work.items ≡ self.new.work.items ++ pair ∷ []) }
+        ensures once { MatchOption result (looks_left self.new ≡ looks_left self.old) (λ pair. looks_left self.new + 1 ≡ looks_left self.old) }
     {
         self.work.pop()
     }

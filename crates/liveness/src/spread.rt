@@ -1,8 +1,8 @@
 // What comes before the blocks where registers are live.
-ghost use Rattle.std.specs.Prelude.{◌≡◌, ℕ, ◌+◌, ◌*◌, ◌-◌, ◌<◌, ◌≤◌, ◌^◌, false, [], length, slice_index, slice_index_or, IfOk, OnOk};
+ghost use Rattle.std.specs.Prelude.{◌≡◌, ℕ, ◌+◌, ◌*◌, ◌-◌, ◌<◌, ◌≤◌, ◌^◌, true, false, [], length, slice_index, slice_index_or, IfOk, OnOk};
 ghost use Rattle.std.specs.List.{Contains};
-ghost use Rattle.liveness.specs.Search.{IsFound, Grows, IsSized};
-ghost use Rattle.liveness.specs.Scan.{IsNumbering, AreSources, HaveSizes, LooksAt, LooksBack, IsDone, Searches};
+ghost use Rattle.liveness.specs.Search.{IsFound, IsEnd, Grows, looks_left, IsSized};
+ghost use Rattle.liveness.specs.Scan.{IsNumbering, AreSources, HaveSizes, KnowsWritten, LooksAt, LooksBack, IsDone, IsUse, Searches};
 
 use crate::search::Search;
 use mir::code::MInst;
@@ -71,10 +71,12 @@ fn look_once(
     requires sources { AreSources blocks.now (length blocks.now) sources.now }
     requires sized { IsSized search.old (length blocks.now) (length search.old.spans.items) }
     requires sizes { HaveSizes (length blocks.now) (length search.old.spans.items) written.now }
+    requires written { KnowsWritten blocks.now written.now }
     requires searches { Searches blocks.now sources.now written.now search.old }
     ensures grows { OnOk result (Grows search.old search.new) }
     ensures searches { OnOk result (Searches blocks.now sources.now written.now search.new) }
     ensures ended { IfOk result (λ more. more ≡ false → search.new.work.items ≡ []) }
+    ensures falls { IfOk result (λ more. more ≡ true → looks_left search.new < looks_left search.old) }
 {
     match search.take_work() {
         Some(pair) => {
@@ -97,15 +99,16 @@ pub fn spread(
     requires sources { AreSources blocks.now (length blocks.now) sources.now }
     requires sized { IsSized search.old (length blocks.now) (length search.old.spans.items) }
     requires sizes { HaveSizes (length blocks.now) (length search.old.spans.items) written.now }
+    requires written { KnowsWritten blocks.now written.now }
     requires searches { Searches blocks.now sources.now written.now search.old }
     ensures grows { OnOk result (Grows search.old search.new) }
     ensures done { OnOk result ((b r : ℕ) → IsFound search.new b r → IsDone blocks.now sources.now written.now search.new b r) }
+    ensures ends { OnOk result ((r point : ℕ) → IsEnd search.new r point → IsUse blocks.now r point) }
 {
-    for _ in 0..u64::MAX {
+    loop {
         let is_more = look_once(search, written, blocks, sources, numbers)?;
         if !is_more {
             return Ok(());
         }
     }
-    Err(NoMemory)
 }

@@ -1,11 +1,11 @@
 -- Where registers are live, and spans that cover it.
-use Rattle.std.specs.Prelude.{◌≡◌, ℕ, ◌+◌, ◌*◌, Some}
+use Rattle.std.specs.Prelude.{◌≡◌, ℕ, ◌+◌, ◌*◌, ◌⊎◌, Some}
 use Rattle.std.specs.List.{Contains}
 use Rattle.mir.specs.declared.code.MInst.{MInst}
 use Rattle.mir.specs.declared.code.MFunction.{MFunction}
 use Rattle.mir.specs.declared.places.Intervals.{Intervals}
 use Rattle.mir.specs.Code.{reads, writes, inst_at, number_of, Follows}
-use Rattle.mir.specs.Places.{Holds}
+use Rattle.mir.specs.Places.{Holds, span_of}
 
 -- a walk of instructions from a place of a block reaches a read of the register before a write of it
 pub data ReadFrom (f : MFunction) (r : ℕ) : ℕ → ℕ → Type 0 where
@@ -29,3 +29,12 @@ pub data IsWrittenAt (f : MFunction) (r : ℕ) : ℕ → Type 0 where
 pub record Covers (f : MFunction) (intervals : Intervals) : Type 0 where
   pub live : (r point : ℕ) → IsLiveAt f r point → Holds intervals r point
   pub written : (r point : ℕ) → IsWrittenAt f r point → Holds intervals r point
+
+-- the register is live or written at the point
+abbrev pub IsInUse : MFunction → ℕ → ℕ → Type 0
+IsInUse f r point = IsLiveAt f r point ⊎ IsWrittenAt f r point
+
+-- no span is longer than it must be: at its first and at its last point its register is live or written, so that a register that never
+-- is has no span
+abbrev pub IsTight : MFunction → Intervals → Type 0
+IsTight f intervals = (r first last : ℕ) → span_of intervals r ≡ Some (first, last) → IsInUse f r first × IsInUse f r last

@@ -16,12 +16,15 @@ pub struct HartSeat<'a> {
     pub(crate) table: &'a CodeTable,
     pub(crate) seat: Seat<(), View>,
     pub(crate) number: u32,
+    /// The word of the table that has the first code word.
+    pub(crate) code: usize,
     ghost here: { seat.table_id ≡ table.now.table.shared.table_id },
     ghost empty: { seat.me.1 ≡ [] },
     ghost plan: { seat.me.0.plan ≡ table.now.table.shared.key } by { Coded-set plan_code _ _ },
     ghost hart: { is_hart seat.me.0.role ≡ true },
     ghost number_is: { number_in seat.me.0.role ≡ number },
     ghost number_fits: { number < table.now.harts },
+    ghost code_is: { code ≡ 1 + table.now.functions + table.now.harts },
     ghost rested: { word_in seat.me.0.role ≡ 0 → length (part_of seat.me.0).pass ≡ 0 },
 }
 
@@ -70,11 +73,20 @@ impl HartSeat<'_> {
         ensures seen { part_of self.new.seat.me.0 ≡ with_item (part_of self.old.seat.me.0) (Saw address result) }
     {
         let place = ((address - 0x100_0000) / 4) as usize;
-        let word = self.table.code_place(place);
+        let word = self.code_place(place);
         self.table
             .table
             .shared
             .load::<LoadWord>(&mut self.seat, word) as u32
+    }
+
+    // The word of the table that has this code word.
+    #[inline(always)]
+    fn code_place(&self, place: usize) -> usize
+        requires { place < self.now.table.now.code_words }
+        ensures { result ≡ 1 + self.now.table.now.functions + self.now.table.now.harts + place }
+    {
+        self.code + place
     }
 
     /// Begins a pass: loads the epoch and announces it.

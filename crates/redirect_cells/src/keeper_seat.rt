@@ -55,6 +55,7 @@ impl<'a> KeeperSeat<'a> {
             table: self.table,
             seat,
             number,
+            code: self.table.first_code_place(),
         }
     }
 
@@ -70,6 +71,7 @@ impl<'a> KeeperSeat<'a> {
             table: _,
             seat,
             number: _,
+            code: _,
         } = other;
         let shared = &self.table.table.shared;
         shared.join_seat::<HartGoes>(&mut self.seat, seat);

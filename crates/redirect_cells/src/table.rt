@@ -86,7 +86,14 @@ impl CodeTable {
         requires { place < self.now.code_words }
         ensures { result ≡ 1 + self.now.functions + self.now.harts + place }
     {
-        1 + self.functions as usize + self.harts as usize + place
+        self.first_code_place() + place
+    }
+
+    // The word of the table that has the first code word.
+    pub(crate) fn first_code_place(&self) -> usize
+        ensures { result ≡ 1 + self.now.functions + self.now.harts }
+    {
+        1 + self.functions as usize + self.harts as usize
     }
 
     // The word of the table that has this hart's word.

@@ -1,8 +1,13 @@
 pub mod Compose
 pub mod Simulate
+pub mod OneEnd
+pub mod Computed
+pub mod Faces
 pub mod Invariant
 pub mod Taken
 pub mod Monotone
 pub mod Numbers
 pub mod Bytes
+pub mod Registers
 pub mod IsPlay
+pub mod MoreReplies

@@ -3,5 +3,9 @@ pub mod Refines
 pub mod Simulation
 pub mod Bits
 pub mod Bytes
+pub mod Computed
+pub mod Registers
 pub mod Functions
+pub mod Face
+pub mod MoreReplies
 pub mod Laws

@@ -24,13 +24,17 @@ spread-requires-clause-sizes c =
 
 pub spread-requires-clause-searches : goal.spread-requires-clause-searches
 spread-requires-clause-searches c =
-    searches_all c.in_ok-search.search c.scan.new.search c.args.blocks.now _ _ (length c.args.blocks.now) c.args.regs c.in_ok-search.ensures c.in_ok-written.ensures.extends
+    searches_all c.in_ok-search.search c.scan.new.search c.args.blocks.now _ _ (length c.args.blocks.now) c.args.regs c.in_ok-search.ensures c.in_ok-written.ensures.extends c.in_ok-written.ensures.adds
 
-pub returns : goal.returns
-returns c = record {
+pub spread-requires-clause-written : goal.spread-requires-clause-written
+spread-requires-clause-written c = rw c.as_slice-2.ensures.value (λ b r below h. (c.in_ok-written.ensures.read b below).all r h)
+
+pub returns-clause-finished : goal.returns-clause-finished
+returns-clause-finished c = record {
   written = c.in_ok-written.written.items;
   sources = c.in_ok-leads.leads.items;
   are = c.in_ok-leads.ensures;
   read = all_kept c.scan.new.search c.spread.new.search c.in_ok-spread.ensures.grows c.in_ok-written.written.items c.args.blocks.now (length c.args.blocks.now) c.in_ok-written.ensures.read;
   done = rw (c.as_slice-2.ensures.value, c.as_slice-3.ensures.value) at c.in_ok-spread.ensures.done;
+  ends = c.in_ok-spread.ensures.ends;
 }

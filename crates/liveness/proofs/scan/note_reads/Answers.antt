@@ -34,5 +34,5 @@ reach_unless-requires-clause-register c =
 pub loop-register-preserved : goal.loop-register-preserved
 loop-register-preserved c =
     one_read c.args.search.now c.loop-register.search c.hold.new.self c.reach_unless.new.self c.args.written.now c.args.registers.now c.args.block c.args.point
-    c.loop-register.register-index c.loop-register-test.true c.loop-register.invariant c.hold.ensures.extends c.hold.ensures.holds
-    c.in_ok-reach_unless.ensures.extends c.in_ok-reach_unless.ensures.found
+    c.loop-register.register-index c.loop-register-test.true c.loop-register.invariant c.hold.ensures.extends c.hold.ensures.holds c.hold.ensures.adds
+    c.in_ok-reach_unless.ensures.extends c.in_ok-reach_unless.ensures.found c.in_ok-reach_unless.ensures.adds

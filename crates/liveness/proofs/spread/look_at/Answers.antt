@@ -45,7 +45,8 @@ loop-from-preserved c =
     c.index-written-place.is ∙ get_or_default c.args.written.now (get_or c.args.sources.now c.loop-from.from-index 0) c.index-written-place.result [] low in
     one_source c.args.search.now c.loop-from.search c.hold.new.self c.reach_unless.new.self c.args.written.now c.args.sources.now c.args.numbers.now c.args.register
     c.loop-from.from-index c.loop-from-test.true c.loop-from.invariant c.hold.ensures.extends (rw c.saturating_sub.ensures at c.hold.ensures.holds)
-    c.in_ok-reach_unless.ensures.extends (rw own at c.in_ok-reach_unless.ensures.found)
+    (rw c.saturating_sub.ensures at c.hold.ensures.adds) c.in_ok-reach_unless.ensures.extends (rw own at c.in_ok-reach_unless.ensures.found)
+    (rw own at c.in_ok-reach_unless.ensures.adds)
 
 pub bounds-numbers-place : goal.bounds-numbers-place
 bounds-numbers-place c =

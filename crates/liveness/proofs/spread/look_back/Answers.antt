@@ -27,4 +27,4 @@ returns c =
     let from : c.as_slice-from.result.now ≡ get_or c.args.sources.now c.args.block [] =
     c.as_slice-from.ensures ∙ c.index-sources-place.is ∙ get_or_default c.args.sources.now c.args.block c.index-sources-place.result [] low in
     looked_back c.args.search.now c.hold.new.self c.look_at.new.search c.args.written.now (get_or c.args.sources.now c.args.block []) c.args.numbers.now c.args.register
-    (2 * get_or c.args.numbers.now c.args.block 0) c.hold.ensures.extends c.hold.ensures.holds (rw from at c.in_ok-look_at.ensures)
+    (2 * get_or c.args.numbers.now c.args.block 0) c.hold.ensures.extends c.hold.ensures.holds c.hold.ensures.adds (rw from at c.in_ok-look_at.ensures)

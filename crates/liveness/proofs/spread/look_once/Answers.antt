@@ -50,7 +50,7 @@ returns-in_ok-look_back-in-Some-clause-searches c =
     (c.in-Some.pair.0) (c.in-Some.pair.1) c.requires.searches c.requires.sized c.requires.sizes c.in-Some.ensures.work c.take_work.ensures.live c.take_work.ensures.spans in
     one_done c.args.blocks.now c.args.sources.now c.args.written.now c.args.numbers.now c.requires.numbers c.requires.sources c.args.search.now c.take_work.new.self c.look_back.new.search
     (c.in-Some.pair.0) (c.in-Some.pair.1) c.requires.searches c.in-Some.ensures.work c.take_work.ensures.live c.take_work.ensures.spans
-    (omega (arith, ready.block.0, c.requires.sizes.size)) c.in_ok-look_back-in-Some.ensures
+    (omega (arith, ready.block.0, c.requires.sizes.size)) c.requires.written c.in_ok-look_back-in-Some.ensures
 
 pub returns-in-None-clause-grows : goal.returns-in-None-clause-grows
 returns-in-None-clause-grows c = grown_by c.args.search.now c.take_work.new.self c.take_work.ensures.live c.take_work.ensures.spans
@@ -59,7 +59,10 @@ pub returns-in-None-clause-searches : goal.returns-in-None-clause-searches
 returns-in-None-clause-searches c =
     none_taken c.args.blocks.now c.args.sources.now c.args.written.now c.args.numbers.now c.requires.numbers c.requires.sources c.args.search.now c.take_work.new.self
     c.requires.searches (c.in-None.ensures.work.0) (c.in-None.ensures.work.1)
-    (grown_by c.args.search.now c.take_work.new.self c.take_work.ensures.live c.take_work.ensures.spans) c.take_work.ensures.live
+    (grown_by c.args.search.now c.take_work.new.self c.take_work.ensures.live c.take_work.ensures.spans) c.take_work.ensures.live c.take_work.ensures.spans
 
 pub returns-in-None-clause-ended : goal.returns-in-None-clause-ended
 returns-in-None-clause-ended c = λ e. c.in-None.ensures.work.1
+
+pub returns-in_ok-look_back-in-Some-clause-falls : goal.returns-in_ok-look_back-in-Some-clause-falls
+returns-in_ok-look_back-in-Some-clause-falls c = λ e. omega (arith, c.in-Some.ensures.once, c.in_ok-look_back-in-Some.ensures.extends.once)

@@ -1,0 +1,9 @@
+pub mod MoreReplies
+pub mod MoreAnswers
+pub mod Lists
+pub mod Values
+pub mod TextCalls
+pub mod Narrow
+pub mod Prefixes
+pub mod Compiled
+pub mod BySteps

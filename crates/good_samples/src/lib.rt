@@ -1,0 +1,4 @@
+//! Small functions whose words run as a play, so that the law of good code speaks of some.
+#![tactic(auto)]
+
+pub mod laws;

@@ -1,0 +1,9 @@
+pub mod Values
+pub mod Numbers
+pub mod Machine
+pub mod Holding
+pub mod Lock
+pub mod Kept
+pub mod Itself
+pub mod Samples
+pub mod Twice

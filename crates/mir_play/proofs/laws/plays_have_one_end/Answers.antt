@@ -1,0 +1,5 @@
+use Rattle.mir_play.proofs.Itself.{plays_have_one_end}
+use Rattle.mir_play.proofs.laws.plays_have_one_end.Goals as goal
+
+pub returns : goal.returns
+returns c = plays_have_one_end

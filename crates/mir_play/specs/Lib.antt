@@ -1,0 +1,5 @@
+pub mod Values
+pub mod Play
+pub mod Machine
+pub mod Refines
+pub mod Laws
