@@ -1,4 +1,4 @@
-"""Writes what the program of crates/corpus is run on and must print.
+"""Writes what the program of crates/corpus is run on for the corpus and must print, before the rows that stand there.
 
 store.py FOLDER CRATE: FOLDER has what build.sh made.
 """
@@ -7,11 +7,20 @@ import os
 import shutil
 import sys
 
+# The first command behind those of the corpus.
+ROWS = "eval eval_rows.ll eval_rows.calls\n"
+
 
 def main(folder, crate):
     data = f"{crate}/data"
-    shutil.rmtree(data, ignore_errors=True)
-    os.makedirs(data)
+    stood = open(f"{crate}/stdin").read()
+    ours, rows = stood[: stood.index(ROWS)], stood[stood.index(ROWS) :]
+    said = open(f"{crate}/stdout").read()
+    said = said[said.index("$ reopt " + ROWS) :]
+    for command in ours.splitlines():
+        for file in command.split()[1:]:
+            if os.path.exists(f"{data}/{file}"):
+                os.remove(f"{data}/{file}")
     commands, told = [], []
     for path in sorted(glob.glob(f"{folder}/*.ll")):
         file = os.path.basename(path)
@@ -22,8 +31,8 @@ def main(folder, crate):
         for command in ["eval", "run"]:
             commands.append(f"{command} {file} {name}.calls\n")
             told.append(f"$ reopt {commands[-1]}{answers}status 0\n")
-    open(f"{crate}/stdin", "w").write("".join(commands))
-    open(f"{crate}/stdout", "w").write("".join(told))
+    open(f"{crate}/stdin", "w").write("".join(commands) + rows)
+    open(f"{crate}/stdout", "w").write("".join(told) + said)
 
 
 main(*sys.argv[1:])

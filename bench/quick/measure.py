@@ -1,5 +1,4 @@
 """Words per instruction of the IR, instructions run per unit, and the time of a translation. Called by `run`."""
-import glob
 import os
 import re
 import resource
@@ -100,7 +99,9 @@ def row(name, insts, listed, units, ran):
 def main(program, corpus, work, each):
     print(f"{'module':20} {'instructions':>12} {'words':>8} {'a piece':>8} {'units':>9} {'run':>12} {'a unit':>8}")
     total = [0, 0, 0, 0]
-    for path in sorted(glob.glob(f"{corpus}/*.ll")):
+    # The commands of the corpus stand before the rows of the meaning.
+    commands = open(f"{corpus}/../stdin").read().split("eval eval_rows.ll")[0].splitlines()
+    for path in sorted(f"{corpus}/{it.split()[1]}" for it in commands if it.startswith("eval ")):
         file = os.path.basename(path)
         some = [instructions(open(path).read()), words(said([program, "dump", path])),
                 *run_of(program, path, f"{corpus}/{file.split('.')[0]}.calls", work)]

@@ -8,3 +8,4 @@ pub mod Epochs
 pub mod Marked
 pub mod First
 pub mod Good
+pub mod Shelves

@@ -1,8 +1,8 @@
-//! The program `reopt` on a corpus of modules: a command a line of standard input.
+//! The program `reopt` on a corpus of modules, on rows of the meaning and on bad input: a command a line of standard input.
 #![tactic(auto)]
 
-use jit_bench::NoGate;
 use jit_main::reopt;
+use jit_session::NoGate;
 use reopt_policy::Quiet;
 use rj_io::{RealFiles, RealSink};
 use std::alloc::{AllocError, Global};

@@ -9,11 +9,11 @@ use Rattle.mir.specs.declared.code.MInst.TheVariants.{Param, Op, Imm, Const, Mov
 use Rattle.mir.specs.declared.code.MFunction.{MFunction}
 use Rattle.mir.specs.declared.places.Places.{Places}
 use Rattle.mir.specs.Places.{place_of}
-use Rattle.fast_isel.specs.Blocks.{Item, Plain, Bind, Goto, Test, plain}
-use Rattle.fast_isel.specs.Assembly.{assembled, bind_all, put}
-use Rattle.fast_isel.specs.Labels.{StandEverywhere}
-use Rattle.fast_isel.proofs.Bridge.{AreBound, AreWithin, stand-everywhere}
-use Rattle.fast_isel.proofs.Fresh.{Rise, rise-append, rise-plain, rise-lower, are-bound, bind-within, none-within}
+use Rattle.quick_code.specs.Blocks.{Item, Plain, Bind, Goto, Test, plain}
+use Rattle.quick_code.specs.Assembly.{assembled, bind_all, put}
+use Rattle.quick_code.specs.Labels.{StandEverywhere}
+use Rattle.quick_code.proofs.Bridge.{AreBound, AreWithin, stand-everywhere}
+use Rattle.quick_code.proofs.Fresh.{Rise, rise-append, rise-plain, rise-lower, are-bound, bind-within, none-within}
 use Rattle.frame_code.specs.Code.{held_in, fetch, goto_items, inst_code, inst_items, insts_items, blocks_items, entry_code, function_items}
 use Rattle.frame_code.specs.Assembly.{code_of}
 use Rattle.frame_code.specs.Laws.{LaidOutStands}
@@ -57,7 +57,7 @@ module _ (f : MFunction) (places : Places) where
       let one : block + 1 + length blocks ≡ block + suc (length blocks) = omega arith in (
         omega arith,
         rise-append (insts_items f places block insts) (blocks_items f places (block + 1) blocks) (block + 1) (block + 1) (block + suc (length blocks)) (rise-insts block (block + 1) insts)
-        (subst (λ (n : ℕ). Rise (block + 1) n (blocks_items f places (block + 1) blocks)) one (rise-blocks (block + 1) blocks)),
+            (subst (λ (n : ℕ). Rise (block + 1) n (blocks_items f places (block + 1) blocks)) one (rise-blocks (block + 1) blocks)),
       )
 
   labels-rise : Rise 0 (length f.blocks) (function_items f places)

@@ -13,10 +13,10 @@ use Rattle.ir_core.specs.declared.program.Global.{Global}
 use Rattle.ir_core.specs.declared.program.Module.{Module}
 use Rattle.ir_core.specs.Layout.{Measure, measure, greatest_of, array_extent, struct_extent, extents, extent_of, size, int_extent, pointer_extent, whole, HasSizesWithin}
 use Rattle.ir_core.proofs.Layouts.{measure-Int, measure-Ptr, measure-Array, measure-Struct, extent-Int, extent-Ptr, extent-Array, extent-Struct, extents-measure}
-use Rattle.ir_limits.specs.declared.sizes.Measured.{Measured}
-use Rattle.ir_limits.specs.First.{or_then}
-use Rattle.ir_limits.specs.Limits.{Passed, above, capped_passing, shown_size, own_or_parts, first_passing, extents_of, measured, measured_with, type_limit, globals_limit, functions_limit, limit_passed}
-use Rattle.ir_limits.proofs.Stops.{measured-Int, measured-Ptr, measured-Array, measured-Struct}
+use Rattle.ir_flow.specs.declared.sizes.Measured.{Measured}
+use Rattle.ir_flow.specs.First.{or_then}
+use Rattle.ir_flow.specs.Limits.{Passed, above, capped_passing, shown_size, own_or_parts, first_passing, extents_of, measured, measured_with, type_limit, globals_limit, functions_limit, limit_passed}
+use Rattle.ir_flow.proofs.Stops.{measured-Int, measured-Ptr, measured-Array, measured-Struct}
 use Rattle.ir_verify.proofs.Lists.{Every, all_of, or_none_left, or_none_right, lt_not}
 use Rattle.ir_data.specs.Image.{HasFewBytes}
 

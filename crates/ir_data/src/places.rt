@@ -1,7 +1,7 @@
 // Where globals stand.
 ghost use Rattle.std.specs.Prelude.{◌≡◌, ◌+◌, ◌*◌, ◌^◌, ◌<◌, ◌≤◌, length, IfOk, None};
 ghost use Rattle.ir_core.specs.Layout.{HasSizesWithin};
-ghost use Rattle.ir_limits.specs.Limits.{limit_passed};
+ghost use Rattle.ir_flow.specs.Limits.{limit_passed};
 ghost use Rattle.ir_meaning.specs.Memory.{data_start};
 ghost use Rattle.ir_meaning.specs.Image.{span as span_of, address_of as address_of_global};
 ghost use Rattle.ir_data.specs.Image.{HasFewBytes, places_from, taken as taken_by};

@@ -9,7 +9,7 @@ use crate::bytes::{push_number, push_text, push_zeros};
 use ir_core::layout::{Extent, size_of};
 use ir_core::program::{Global as GlobalItem, Init};
 use ir_core::types::MemTy;
-use ir_limits::sizes::measure_of;
+use ir_flow::sizes::measure_of;
 use sqlite_items::Items;
 use std::alloc::AllocError;
 

@@ -14,7 +14,7 @@ use Rattle.ir_core.specs.declared.code.Block.{Block}
 use Rattle.ir_core.specs.declared.program.Function.{Function}
 use Rattle.ir_core.specs.declared.program.Global.{Global}
 use Rattle.ir_core.specs.Units.{instructions, values as value_count, types_of_arguments}
-use Rattle.ir_limits.specs.Limits.{function_limit, functions_limit, insts_limit, op_limit}
+use Rattle.ir_flow.specs.Limits.{function_limit, functions_limit, insts_limit, op_limit}
 use Rattle.ir_meaning.specs.Value.{Value}
 use Rattle.ir_meaning.specs.Memory.{data_start}
 use Rattle.ir_meaning.specs.Image.{span, address_of}

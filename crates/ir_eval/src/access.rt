@@ -3,13 +3,13 @@ ghost use Rattle.std.specs.Prelude.{◌≡◌, ◌+◌, ◌*◌, ◌^◌, ◌<�
 ghost use Rattle.ir_core.specs.Layout.{aligned};
 ghost use Rattle.ir_meaning.specs.Memory.{byte_count as byte_count_of};
 ghost use Rattle.ir_meaning.specs.Ranges.{FitsWidth};
-ghost use Rattle.ir_rows.specs.Rows.{meant};
+ghost use Rattle.ir_ops.specs.Rows.{meant};
 ghost use Rattle.ir_eval.specs.Access.{changed, fresh_of, load_of, store_of};
 
 use ir_core::layout::int_extent;
 use ir_core::types::Ty;
-use ir_memory::memory::DataMemory;
-use ir_rows::value::Computed;
+use ir_ops::memory::DataMemory;
+use ir_ops::value::Computed;
 use std::alloc::AllocError;
 
 /// How many bytes a value of a type takes in memory.

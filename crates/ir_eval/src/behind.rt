@@ -4,15 +4,15 @@ ghost use Rattle.ir_meaning.specs.Step.{Goes as GoesTo, behind as behind_of, ins
 ghost use Rattle.ir_eval.specs.Beyond.{given_does};
 ghost use Rattle.ir_eval.specs.Fits.{HasNumbers, IsBounded};
 ghost use Rattle.ir_eval.specs.Turns.{came, shown};
-ghost use Rattle.ir_rows.specs.Rows.{meant};
+ghost use Rattle.ir_ops.specs.Rows.{meant};
 
 use crate::done::Done;
 use crate::numbers::put;
 use ir_core::code::Inst;
 use ir_core::program::Function;
 use ir_meaning::activation::Activation;
-use ir_memory::memory::DataMemory;
-use ir_rows::value::Computed;
+use ir_ops::memory::DataMemory;
+use ir_ops::value::Computed;
 use sqlite_items::Items;
 
 /// The activation behind an instruction that gave this value.

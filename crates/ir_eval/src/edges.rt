@@ -14,7 +14,7 @@ use ir_core::code::{Inst, Op, Operand};
 use ir_core::program::{Function, Module};
 use ir_core::units::capped_units;
 use ir_meaning::activation::Activation;
-use ir_memory::memory::DataMemory;
+use ir_ops::memory::DataMemory;
 use sqlite_items::Items;
 use std::alloc::{AllocError, Global};
 

@@ -11,7 +11,7 @@ use crate::ends::{End, Entered};
 use ir_core::program::{Function, Module};
 use ir_core::units::{frame_of, values_of};
 use ir_meaning::activation::Activation;
-use ir_memory::memory::DataMemory;
+use ir_ops::memory::DataMemory;
 use sqlite_items::Items;
 use std::alloc::AllocError;
 

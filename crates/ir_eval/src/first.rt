@@ -8,7 +8,7 @@ use ir_core::layout::size_of;
 use ir_core::program::Module;
 use ir_data::places::{DATA_START, places, span, taken};
 use ir_data::values::push_init;
-use ir_memory::memory::DataMemory;
+use ir_ops::memory::DataMemory;
 use sqlite_items::Items;
 use std::alloc::{AllocError, Global};
 

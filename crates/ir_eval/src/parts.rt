@@ -21,8 +21,8 @@ use ir_core::program::{Function, Module};
 use ir_core::types::{MemTy, Ty};
 use ir_data::values::{extent_of, field_start};
 use ir_meaning::activation::Activation;
-use ir_memory::memory::DataMemory;
-use ir_rows::value::Computed;
+use ir_ops::memory::DataMemory;
+use ir_ops::value::Computed;
 use rj_num::width::extend;
 use sqlite_items::Items;
 

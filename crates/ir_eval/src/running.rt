@@ -13,7 +13,7 @@ use crate::entering::enter;
 use crate::turns::{inst_at, numbers_at, turn};
 use ir_core::program::Module;
 use ir_meaning::activation::Activation;
-use ir_memory::memory::DataMemory;
+use ir_ops::memory::DataMemory;
 use sqlite_items::Items;
 use std::alloc::{AllocError, Global};
 use std::mem::replace;

@@ -14,12 +14,12 @@ use ir_core::code::{BuiltIn, Inst, Op, Operand};
 use ir_core::program::{Function, Module};
 use ir_core::types::Ty;
 use ir_meaning::activation::Activation;
-use ir_memory::memory::DataMemory;
-use ir_rows::binary::binary;
-use ir_rows::casts::{cast, width};
-use ir_rows::choices::{built_in, freeze, select};
-use ir_rows::compare::compare;
-use ir_rows::value::Computed;
+use ir_ops::binary::binary;
+use ir_ops::casts::{cast, width};
+use ir_ops::choices::{built_in, freeze, select};
+use ir_ops::compare::compare;
+use ir_ops::memory::DataMemory;
+use ir_ops::value::Computed;
 use sqlite_items::Items;
 
 /// What a built-in of two numbers gives.

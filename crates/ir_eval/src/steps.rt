@@ -17,7 +17,7 @@ use ir_core::layout::size_of;
 use ir_core::program::{Function, Module};
 use ir_core::types::{MemTy, Ty};
 use ir_meaning::activation::Activation;
-use ir_memory::memory::DataMemory;
+use ir_ops::memory::DataMemory;
 use sqlite_items::Items;
 use std::alloc::{AllocError, Global};
 

@@ -1,3 +1,4 @@
+pub mod Stops
 pub mod Members
 pub mod Passing
 pub mod Visiting

@@ -1,3 +1,5 @@
+pub mod First
+pub mod Limits
 pub mod Flow
 pub mod Search
 pub mod Tree

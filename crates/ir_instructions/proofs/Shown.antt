@@ -4,10 +4,10 @@ use Rattle.std.specs.Prelude.{◌⊎◌, ◌&&◌}
 use Rattle.std.specs.List.{starts_with}
 use Rattle.ir_text.specs.declared.name.Name.{Name}
 use Rattle.ir_text.specs.declared.name.Number.{Number}
-use Rattle.ir_words.specs.declared.tree.TypeNode.{TypeNode}
-use Rattle.ir_values.specs.declared.tree.Value.{Value}
-use Rattle.ir_values.specs.declared.tree.Value.TheVariants as written
-use Rattle.ir_values.specs.declared.tree.Typed.{Typed}
+use Rattle.ir_grammar.specs.declared.type_tree.TypeNode.{TypeNode}
+use Rattle.ir_grammar.specs.declared.value_tree.Value.{Value}
+use Rattle.ir_grammar.specs.declared.value_tree.Value.TheVariants as written
+use Rattle.ir_grammar.specs.declared.value_tree.Typed.{Typed}
 use Rattle.ir_tree.specs.declared.tree.Incoming.{Incoming}
 use Rattle.ir_tree.specs.declared.tree.Case.{Case}
 use Rattle.ir_tree.specs.declared.tree.Operation.{Operation}
@@ -22,21 +22,21 @@ use Rattle.ir_core.specs.declared.code.Pred.{Pred}
 use Rattle.ir_core.specs.declared.code.Flags.{Flags}
 use Rattle.ir_core.specs.declared.code.Op.TheVariants as core
 use Rattle.ir_types.specs.Types.{type_of, memory}
-use Rattle.ir_words.specs.declared.tree.Align.{Align}
+use Rattle.ir_grammar.specs.declared.type_tree.Align.{Align}
 use Rattle.ir_instructions.specs.Counts.{small_align, align_step, small_aligns, item_count}
 use Rattle.ir_types.specs.declared.table.Types.{Types}
-use Rattle.ir_names.specs.declared.fault.Fault.{Fault}
-use Rattle.ir_names.specs.declared.fault.Fault.TheVariants as faults
-use Rattle.ir_names.specs.declared.tables.Target.{Target}
-use Rattle.ir_names.specs.declared.tables.Target.TheVariants as targets
-use Rattle.ir_names.specs.Walk.{◌>>=◌, walk, or_fault}
-use Rattle.ir_names.specs.Tables.{target_named}
+use Rattle.ir_types.specs.declared.fault.Fault.{Fault}
+use Rattle.ir_types.specs.declared.fault.Fault.TheVariants as faults
+use Rattle.ir_types.specs.declared.tables.Target.{Target}
+use Rattle.ir_types.specs.declared.tables.Target.TheVariants as targets
+use Rattle.ir_types.specs.Walk.{◌>>=◌, walk, or_fault}
+use Rattle.ir_types.specs.Tables.{target_named}
 use Rattle.ir_types.specs.declared.names.Table.{Table}
 use Rattle.ir_types.specs.Names.{Symbols, bytes_of, named_target}
-use Rattle.ir_constants.specs.Literals.{literal_of}
-use Rattle.ir_operands.specs.Operands.{is_ty, where_ty, number_operand, operand, typed, typed_as, block_of, place_of_value, place_of_type}
-use Rattle.ir_operands.specs.Causes.{TypeFault}
-use Rattle.ir_operands.proofs.Shown.{chain, gives-then, carry, ok-fails, type_fails, value_fails, block_fails, bytes-fail, where-fails}
+use Rattle.ir_resolve.specs.Literals.{literal_of}
+use Rattle.ir_resolve.specs.Operands.{is_ty, where_ty, number_operand, operand, typed, typed_as, block_of, place_of_value, place_of_type}
+use Rattle.ir_resolve.specs.Causes.{TypeFault}
+use Rattle.ir_resolve.proofs.Shown.{chain, gives-then, carry, ok-fails, type_fails, value_fails, block_fails, bytes-fail, where-fails}
 use Rattle.ir_instructions.specs.declared.lists.TypedList.{TypedList}
 use Rattle.ir_instructions.specs.Instructions.{result_type, typed_step, typed_list, incoming_step, incoming_list, case_number, case_value, case_step, case_list, binary, comparison, cast, selection, freezing, phi, loading, storing, callee_number, symbol_of, direct_call, built_in_call, own_call, named_call, call, returned_type, returning, ret, jump, fork, switching, alloca, gep, operation}
 use Rattle.ir_instructions.specs.declared.built_ins.NamedBuiltIn.{NamedBuiltIn}

@@ -3,19 +3,19 @@ use Rattle.std.specs.Prelude.{ℕ, Bool, true, false, ◌&&◌, ◌-◌, nat_le,
 use Rattle.std.specs.List.{list_all}
 use Rattle.std.specs.Str.{bytes_eq}
 use Rattle.std.specs.Char.{is_ascii_digit}
-use Rattle.ir_values.specs.declared.tree.Value.{Value}
-use Rattle.ir_values.specs.declared.tree.Value.TheVariants as written
-use Rattle.ir_values.specs.declared.tree.Typed.{Typed}
+use Rattle.ir_grammar.specs.declared.value_tree.Value.{Value}
+use Rattle.ir_grammar.specs.declared.value_tree.Value.TheVariants as written
+use Rattle.ir_grammar.specs.declared.value_tree.Typed.{Typed}
 use Rattle.ir_core.specs.declared.types.TheConstants.{MAX_WIDTH}
 use Rattle.ir_core.specs.declared.types.Ty.{Ty}
 use Rattle.ir_core.specs.declared.types.Ty.TheVariants as values
 use Rattle.ir_core.specs.declared.code.BuiltIn.{BuiltIn}
 use Rattle.ir_core.specs.declared.code.BuiltIn.TheVariants as built
 use Rattle.ir_core.specs.declared.code.Operand.{Operand}
-use Rattle.ir_names.specs.declared.fault.Fault.{Fault}
-use Rattle.ir_names.specs.declared.fault.Fault.TheVariants as faults
-use Rattle.ir_names.specs.Numbers.{natural}
-use Rattle.ir_operands.specs.Operands.{is_ty}
+use Rattle.ir_types.specs.declared.fault.Fault.{Fault}
+use Rattle.ir_types.specs.declared.fault.Fault.TheVariants as faults
+use Rattle.ir_types.specs.Numbers.{natural}
+use Rattle.ir_resolve.specs.Operands.{is_ty}
 use Rattle.ir_instructions.specs.declared.built_ins.NamedBuiltIn.{NamedBuiltIn}
 
 -- a width that decimal digits say

@@ -2,10 +2,10 @@
 use Rattle.std.specs.Prelude.{◌≡◌, ◌⊎◌, ℕ, Bool, true, false, ◌&&◌, not, nat_eq, ◌-◌, length, slice_get, List, [], ◌∷◌, ◌++◌, codes, Some, None, Result, Ok, Option, Err}
 use Rattle.std.specs.List.{starts_with}
 use Rattle.ir_text.specs.declared.name.Name.{Name}
-use Rattle.ir_words.specs.declared.tree.TypeNode.{TypeNode}
-use Rattle.ir_values.specs.declared.tree.Value.{Value}
-use Rattle.ir_values.specs.declared.tree.Value.TheVariants as written
-use Rattle.ir_values.specs.declared.tree.Typed.{Typed}
+use Rattle.ir_grammar.specs.declared.type_tree.TypeNode.{TypeNode}
+use Rattle.ir_grammar.specs.declared.value_tree.Value.{Value}
+use Rattle.ir_grammar.specs.declared.value_tree.Value.TheVariants as written
+use Rattle.ir_grammar.specs.declared.value_tree.Typed.{Typed}
 use Rattle.ir_tree.specs.declared.tree.Incoming.{Incoming}
 use Rattle.ir_tree.specs.declared.tree.Case.{Case}
 use Rattle.ir_tree.specs.declared.tree.Operation.{Operation}
@@ -14,15 +14,15 @@ use Rattle.ir_core.specs.declared.code.Operand.{Operand}
 use Rattle.ir_core.specs.declared.types.Ty.{Ty}
 use Rattle.ir_core.specs.declared.types.Ty.TheVariants as values
 use Rattle.ir_types.specs.Types.{type_of, memory}
-use Rattle.ir_words.specs.declared.tree.Align.{Align}
+use Rattle.ir_grammar.specs.declared.type_tree.Align.{Align}
 use Rattle.ir_instructions.specs.Counts.{item_count, small_align}
 use Rattle.ir_types.specs.declared.table.Types.{Types}
-use Rattle.ir_names.specs.declared.fault.Fault.{Fault}
-use Rattle.ir_names.specs.declared.fault.Fault.TheVariants as faults
+use Rattle.ir_types.specs.declared.fault.Fault.{Fault}
+use Rattle.ir_types.specs.declared.fault.Fault.TheVariants as faults
 use Rattle.ir_types.specs.declared.names.Table.{Table}
 use Rattle.ir_types.specs.Names.{Symbols, bytes_of}
-use Rattle.ir_operands.specs.Operands.{is_ty}
-use Rattle.ir_operands.specs.Causes.{TypeFault, ValueFault, BlockFault, Misfits, IsNoType, IsMisspelt, IsMisspeltLocal, IsNoSymbol, NamesGlobal}
+use Rattle.ir_resolve.specs.Operands.{is_ty}
+use Rattle.ir_resolve.specs.Causes.{TypeFault, ValueFault, BlockFault, Misfits, IsNoType, IsMisspelt, IsMisspeltLocal, IsNoSymbol, NamesGlobal}
 use Rattle.ir_instructions.specs.declared.built_ins.NamedBuiltIn.{NamedBuiltIn}
 use Rattle.ir_instructions.specs.BuiltIns.{built_in_of, is_of_memory, measured, has_width}
 use Rattle.ir_instructions.specs.Instructions.{typed_list}

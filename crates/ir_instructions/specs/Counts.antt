@@ -1,20 +1,20 @@
 -- How many items are made, and what `align` says.
 use Rattle.std.specs.Prelude.{◌≡◌, ℕ, ◌^◌, Bool, true, false, nat_le, nat_lt, List, Option, Some, None, Result, Ok, Err, if◌then◌else◌}
 use Rattle.ir_text.specs.declared.name.Number.{Number}
-use Rattle.ir_words.specs.declared.tree.Align.{Align}
-use Rattle.ir_values.specs.declared.tree.Value.{Value}
-use Rattle.ir_values.specs.declared.tree.Value.TheVariants as written
-use Rattle.ir_values.specs.declared.tree.Typed.{Typed}
+use Rattle.ir_grammar.specs.declared.type_tree.Align.{Align}
+use Rattle.ir_grammar.specs.declared.value_tree.Value.{Value}
+use Rattle.ir_grammar.specs.declared.value_tree.Value.TheVariants as written
+use Rattle.ir_grammar.specs.declared.value_tree.Typed.{Typed}
 use Rattle.ir_core.specs.declared.types.Ty.{Ty}
 use Rattle.ir_core.specs.declared.types.Ty.TheVariants as values
 use Rattle.ir_types.specs.declared.table.Types.{Types}
 use Rattle.ir_types.specs.Types.{type_of}
-use Rattle.ir_names.specs.declared.fault.Fault.{Fault}
-use Rattle.ir_names.specs.declared.fault.Fault.TheVariants as faults
-use Rattle.ir_names.specs.Walk.{◌>>=◌, walk}
-use Rattle.ir_names.specs.Numbers.{natural}
-use Rattle.ir_constants.specs.Literals.{literal_of}
-use Rattle.ir_operands.specs.Operands.{place_of_value}
+use Rattle.ir_types.specs.declared.fault.Fault.{Fault}
+use Rattle.ir_types.specs.declared.fault.Fault.TheVariants as faults
+use Rattle.ir_types.specs.Walk.{◌>>=◌, walk}
+use Rattle.ir_types.specs.Numbers.{natural}
+use Rattle.ir_resolve.specs.Literals.{literal_of}
+use Rattle.ir_resolve.specs.Operands.{place_of_value}
 use Rattle.ir_instructions.specs.declared.counts.Looked.{Looked}
 
 abbrev pub small_number : Option ℕ → Bool

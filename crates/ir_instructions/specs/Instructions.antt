@@ -2,9 +2,9 @@
 use Rattle.std.specs.Prelude.{ℕ, Bool, not, ◌&&◌, nat_eq, List, [], ◌∷◌, ◌++◌, codes, Option, Some, None, Result, Ok, Err, if◌then◌else◌, true, false}
 use Rattle.std.specs.List.{starts_with}
 use Rattle.ir_text.specs.declared.name.Name.{Name}
-use Rattle.ir_words.specs.declared.tree.TypeNode.{TypeNode}
-use Rattle.ir_values.specs.declared.tree.Value.{Value}
-use Rattle.ir_values.specs.declared.tree.Typed.{Typed}
+use Rattle.ir_grammar.specs.declared.type_tree.TypeNode.{TypeNode}
+use Rattle.ir_grammar.specs.declared.value_tree.Value.{Value}
+use Rattle.ir_grammar.specs.declared.value_tree.Typed.{Typed}
 use Rattle.ir_tree.specs.declared.tree.Incoming.{Incoming}
 use Rattle.ir_tree.specs.declared.tree.Case.{Case}
 use Rattle.ir_tree.specs.declared.tree.Operation.{Operation}
@@ -20,15 +20,15 @@ use Rattle.ir_core.specs.declared.code.Flags.{Flags}
 use Rattle.ir_core.specs.declared.code.Op.{Op}
 use Rattle.ir_core.specs.declared.code.Op.TheVariants as core
 use Rattle.ir_types.specs.Types.{type_of, memory}
-use Rattle.ir_words.specs.declared.tree.Align.{Align}
+use Rattle.ir_grammar.specs.declared.type_tree.Align.{Align}
 use Rattle.ir_instructions.specs.Counts.{item_count, small_aligns}
 use Rattle.ir_types.specs.declared.table.Types.{Types}
-use Rattle.ir_names.specs.declared.fault.Fault.{Fault}
-use Rattle.ir_names.specs.declared.fault.Fault.TheVariants as faults
-use Rattle.ir_names.specs.declared.tables.Target.{Target}
-use Rattle.ir_names.specs.declared.tables.Target.TheVariants as targets
-use Rattle.ir_names.specs.Walk.{◌>>=◌, walk, or_fault}
-use Rattle.ir_names.specs.Tables.{target_named}
+use Rattle.ir_types.specs.declared.fault.Fault.{Fault}
+use Rattle.ir_types.specs.declared.fault.Fault.TheVariants as faults
+use Rattle.ir_types.specs.declared.tables.Target.{Target}
+use Rattle.ir_types.specs.declared.tables.Target.TheVariants as targets
+use Rattle.ir_types.specs.Walk.{◌>>=◌, walk, or_fault}
+use Rattle.ir_types.specs.Tables.{target_named}
 use Rattle.ir_types.specs.declared.names.Table.{Table}
 use Rattle.ir_instructions.specs.declared.built_ins.NamedBuiltIn.{NamedBuiltIn}
 use Rattle.ir_instructions.specs.BuiltIns.{built_in_of, quiet, fitting}
@@ -36,7 +36,7 @@ use Rattle.ir_instructions.specs.declared.lists.TypedList.{TypedList}
 use Rattle.ir_instructions.specs.declared.lists.IncomingList.{IncomingList}
 use Rattle.ir_instructions.specs.declared.lists.CaseList.{CaseList}
 use Rattle.ir_types.specs.Names.{Symbols, bytes_of}
-use Rattle.ir_operands.specs.Operands.{is_ty, operand, typed, typed_as, block_of, place_of_value, place_of_type}
+use Rattle.ir_resolve.specs.Operands.{is_ty, operand, typed, typed_as, block_of, place_of_value, place_of_type}
 
 -- the type of an instruction's result; `void` where it has none
 unfoldable pub result_type : Types → Operation → Result Ty Fault

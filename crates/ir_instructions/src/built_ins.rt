@@ -3,15 +3,15 @@ ghost use Rattle.std.specs.Prelude.{◌≡◌};
 ghost use Rattle.std.specs.Option.{option_copied};
 ghost use Rattle.std.specs.List.{list_all};
 ghost use Rattle.std.specs.Char.{is_ascii_digit};
-ghost use Rattle.ir_names.specs.Walk.{Gives};
+ghost use Rattle.ir_types.specs.Walk.{Gives};
 ghost use Rattle.ir_instructions.specs.BuiltIns.{small_width, width_of_digits, width_behind, with_width, or_named, built_in, memory_named, integer_named, built_in_of, is_of_memory, measured, has_width, quiet_value, quiet_argument, quiet, fitting};
 
 use ir_core::code::{BuiltIn, Operand};
 use ir_core::types::{MAX_WIDTH, Ty};
-use ir_names::{Fault, natural};
-use ir_operands::operands::is_ty;
-use ir_values::tree::{Typed, Value};
-use ir_words::words::says;
+use ir_grammar::value_tree::{Typed, Value};
+use ir_grammar::words::says;
+use ir_resolve::operands::is_ty;
+use ir_types::{Fault, natural};
 
 /// A built-in, and the width that its name says.
 #[derive(Clone, Copy, Debug, PartialEq, Eq, Drop)]

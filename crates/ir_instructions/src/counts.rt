@@ -1,17 +1,16 @@
 // How many items are made, and what `align` says.
 ghost use Rattle.std.specs.Prelude.{◌≡◌};
-ghost use Rattle.ir_names.specs.Walk.{Gives};
+ghost use Rattle.ir_types.specs.Walk.{Gives};
 ghost use Rattle.ir_instructions.specs.Counts.{small_number, small_align, align_step, small_aligns, below_size, number_count, value_count, item_count};
 
-use ir_constants::literal_of;
 use ir_core::types::Ty;
-use ir_names::{Fault, Step, natural, walk};
-use ir_operands::operands::place_of_value;
-use ir_operands::scope::Outer;
+use ir_grammar::type_tree::Align;
+use ir_grammar::value_tree::{Typed, Value};
+use ir_resolve::literal_of;
+use ir_resolve::operands::place_of_value;
+use ir_resolve::scope::Outer;
 use ir_text::Number;
-use ir_types::type_of;
-use ir_values::tree::{Typed, Value};
-use ir_words::tree::Align;
+use ir_types::{Fault, Step, natural, type_of, walk};
 
 fn small_number(number: Option<u128>) -> bool
     ensures { result ≡ small_number number }

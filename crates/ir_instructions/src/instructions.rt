@@ -1,5 +1,5 @@
 ghost use Rattle.std.specs.Prelude.{◌≡◌};
-ghost use Rattle.ir_names.specs.Walk.{Gives};
+ghost use Rattle.ir_types.specs.Walk.{Gives};
 ghost use Rattle.ir_instructions.specs.Instructions.{result_type, binary, comparison, cast, selection, freezing, phi, loading, storing, callee_number, symbol_of, direct_call, built_in_call, own_call, named_call, call, returned_type, returning, ret, jump, fork, switching, in_entry, alloca, gep, operation};
 
 use crate::built_ins::{NamedBuiltIn, built_in_of, fitting, quiet};
@@ -7,16 +7,15 @@ use crate::counts::{item_count, small_aligns};
 use crate::lists::{case_list, incoming_list, typed_list};
 use ir_core::code::{BinOp, CastOp, Flags, Op, Pred};
 use ir_core::types::Ty;
-use ir_names::{Fault, Named, Target};
-use ir_operands::operands::{
+use ir_grammar::type_tree::{Align, TypeNode};
+use ir_grammar::value_tree::{Typed, Value};
+use ir_resolve::operands::{
     block_of, is_ty, operand, place_of_type, place_of_value, typed, typed_as,
 };
-use ir_operands::scope::Outer;
+use ir_resolve::scope::Outer;
 use ir_text::Name;
 use ir_tree::{Case, Incoming, Operation};
-use ir_types::{Table, bytes_of, memory, type_of};
-use ir_values::tree::{Typed, Value};
-use ir_words::tree::{Align, TypeNode};
+use ir_types::{Fault, Named, Table, Target, bytes_of, memory, type_of};
 
 /// The type of an instruction's result; `void` where it has none.
 #[tactic(auto, unfolding(crate::specs::Instructions::result_type))]

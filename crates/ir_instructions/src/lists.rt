@@ -1,16 +1,15 @@
 ghost use Rattle.std.specs.Prelude.{◌≡◌, ℕ, List};
-ghost use Rattle.ir_names.specs.Walk.{Gives};
-ghost use Rattle.ir_operands.specs.Operands.{place_of_value};
+ghost use Rattle.ir_types.specs.Walk.{Gives};
+ghost use Rattle.ir_resolve.specs.Operands.{place_of_value};
 ghost use Rattle.ir_instructions.specs.Instructions.{typed_step, typed_list, incoming_step, incoming_list, case_number, case_value, case_step, case_list};
 
 use ir_core::code::Operand;
 use ir_core::types::Ty;
-use ir_names::{Fault, Step, walk};
-use ir_operands::operands::{block_of, operand, place_of_value, typed, typed_as};
-use ir_operands::scope::Outer;
+use ir_grammar::value_tree::Typed;
+use ir_resolve::operands::{block_of, operand, place_of_value, typed, typed_as};
+use ir_resolve::scope::Outer;
 use ir_tree::{Case, Incoming};
-use ir_types::Table;
-use ir_values::tree::Typed;
+use ir_types::{Fault, Step, Table, walk};
 use sqlite_items::Items;
 
 /// What is known inside a function.

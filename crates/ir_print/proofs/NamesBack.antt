@@ -10,7 +10,7 @@ use Rattle.ir_text.specs.declared.token.Spelling.TheVariants.{Bare, Numbered, Qu
 use Rattle.ir_text.specs.declared.quoted.Escape.TheVariants.{Closed}
 use Rattle.ir_text.specs.Token.{local, global, bytes, is_name_byte, is_no_quote, begins, front, back, name_at, Spelled, quoted, local_or_mark, global_or_mark, bytes_or_mark, token_here}
 use Rattle.ir_text.specs.Quoted.{hexadecimal, escaped, before, unquoted_behind, unquoted, said}
-use Rattle.ir_page.specs.Names.{is_bare, is_numeral, hexadecimal_digit, is_plain, quoted_byte, quoted_text, name_text}
+use Rattle.ir_print.specs.Names.{is_bare, is_numeral, hexadecimal_digit, is_plain, quoted_byte, quoted_text, name_text}
 
 -- ---- tests
 

@@ -12,7 +12,7 @@ use Rattle.std.proofs.lemmas.Str.Parse.{digit_at}
 use Rattle.rj_num.specs.Width.{is_negative, signed}
 use Rattle.ir_text.specs.declared.token.Spelling.TheVariants.{Bare}
 use Rattle.ir_text.specs.Token.{Token, local, number, Spelled, is_name_byte, begins, begins_with, back, labelled, digit_run, bare_run, number_token, token_here}
-use Rattle.ir_page.specs.Numbers.{number_text}
+use Rattle.ir_print.specs.Numbers.{number_text}
 use Rattle.ir_print.specs.Laws.{literal_value}
 use Rattle.ir_print.proofs.NamesBack.{both_true, run_front, run_back, no_digit, digits_are_names, values_back}
 

@@ -6,8 +6,8 @@ use Rattle.ir_text.specs.declared.token.Spelling.{Spelling}
 use Rattle.ir_text.specs.declared.token.Spelling.TheVariants.{Bare}
 use Rattle.ir_text.specs.Token.{local, global, number, bytes, is_name_byte, begins, begins_with, token_here}
 use Rattle.ir_text.specs.Quoted.{unquoted, said}
-use Rattle.ir_page.specs.Names.{quoted_text, name_text}
-use Rattle.ir_page.specs.Numbers.{number_text}
+use Rattle.ir_print.specs.Names.{quoted_text, name_text}
+use Rattle.ir_print.specs.Numbers.{number_text}
 
 -- bytes behind which stands no byte of a name, when they are printed as the name of a global, are read as a name that says them
 abbrev pub NamesReadBack : Type 0

@@ -1,3 +1,5 @@
+pub mod Names
+pub mod Numbers
 pub mod Types
 pub mod Values
 pub mod Instructions

@@ -1,1 +1,4 @@
+pub mod Functions
+pub mod Causes
+pub mod TreeCauses
 pub mod Reads

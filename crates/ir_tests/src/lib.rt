@@ -1,4 +1,4 @@
-//! Modules made by hand, and tests of the IR's numbers and of the verifier over them.
+//! Modules made by hand, and tests of the IR's numbers, of the verifier over them, and of texts that are read as trees.
 #![tactic(auto)]
 
 pub mod build;
@@ -6,3 +6,5 @@ pub mod build;
 mod layouts;
 #[cfg(test)]
 mod tests;
+#[cfg(test)]
+mod tree_tests;

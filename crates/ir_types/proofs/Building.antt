@@ -4,7 +4,7 @@ use Rattle.std.specs.Prelude.{reverse}
 use Rattle.std.proofs.lemmas.List.{reverse-append, reverse-reverse}
 use Rattle.ir_core.specs.declared.types.MemTy.{MemTy}
 use Rattle.ir_core.specs.declared.types.MemTy as types
-use Rattle.ir_names.specs.declared.fault.Fault.{Fault}
+use Rattle.ir_types.specs.declared.fault.Fault.{Fault}
 use Rattle.ir_types.specs.declared.build.OpenType.{OpenType}
 use Rattle.ir_types.specs.declared.build.OpenType.TheVariants as opens
 use Rattle.ir_types.specs.declared.build.Builder.{Builder}

@@ -3,9 +3,9 @@ use Rattle.std.proofs.Common.{◌≡◌, ℕ, zero, suc, ◌+◌, ◌≤◌, max
 use Rattle.std.specs.Prelude.{slice_get}
 use Rattle.std.proofs.lemmas.Bool.Decides.{nat_tests}
 use Rattle.std.proofs.lemmas.Option.{none-some, same_Some}
-use Rattle.ir_names.specs.declared.fault.Fault.{Fault}
-use Rattle.ir_names.specs.declared.fault.Fault.TheVariants as faults
-use Rattle.ir_names.specs.Walk.{◌>>=◌, walk}
+use Rattle.ir_types.specs.declared.fault.Fault.{Fault}
+use Rattle.ir_types.specs.declared.fault.Fault.TheVariants as faults
+use Rattle.ir_types.specs.Walk.{◌>>=◌, walk}
 use Rattle.ir_types.specs.declared.parts.Part.{Part}
 use Rattle.ir_types.specs.declared.parts.Part.TheVariants as parts
 use Rattle.ir_types.specs.declared.summary.Summary.{Summary}
@@ -13,7 +13,7 @@ use Rattle.ir_types.specs.declared.summary.Entry.{Entry}
 use Rattle.ir_types.specs.declared.summary.Entry.TheVariants as entries
 use Rattle.ir_types.specs.Replaced.{Definitions, definition}
 use Rattle.ir_types.specs.Summaries.{known_of, with_named, with_part, summary_step, summary_of, no_parts, root_in, root_at, root_of, Follows, AreResolved}
-use Rattle.ir_types.proofs.Lists.{same_Ok, err-ok, one_item}
+use Rattle.ir_types.proofs.TypeLists.{same_Ok, err-ok, one_item}
 
 -- up to a rank, what is known stays known
 abbrev pub Keeps : List Entry → List Entry → ℕ → Type 0

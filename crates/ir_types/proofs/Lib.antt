@@ -1,4 +1,7 @@
-pub mod Lists
+pub mod Lookups
+pub mod Walks
+pub mod Digits
+pub mod TypeLists
 pub mod Replacing
 pub mod Following
 pub mod Resolving

@@ -3,12 +3,12 @@ use Rattle.std.proofs.Common.{◌≡◌, ℕ, zero, suc, ◌+◌, ◌≤◌, max
 use Rattle.std.specs.Prelude.{slice_get}
 use Rattle.std.proofs.lemmas.Option.{none-some, same_Some}
 use Rattle.std.proofs.lemmas.List.{append_assoc, append-nil}
-use Rattle.ir_limits.specs.First.{or_then}
-use Rattle.ir_limits.specs.Limits.{capped}
-use Rattle.ir_limits.proofs.Stops.{or_assoc, or_none}
-use Rattle.ir_names.specs.declared.fault.Fault.{Fault}
-use Rattle.ir_names.specs.declared.fault.Fault.TheVariants as faults
-use Rattle.ir_names.specs.Walk.{◌>>=◌}
+use Rattle.ir_flow.specs.First.{or_then}
+use Rattle.ir_flow.specs.Limits.{capped}
+use Rattle.ir_flow.proofs.Stops.{or_assoc, or_none}
+use Rattle.ir_types.specs.declared.fault.Fault.{Fault}
+use Rattle.ir_types.specs.declared.fault.Fault.TheVariants as faults
+use Rattle.ir_types.specs.Walk.{◌>>=◌}
 use Rattle.ir_types.specs.declared.parts.Part.{Part}
 use Rattle.ir_types.specs.declared.parts.Part.TheVariants as parts
 use Rattle.ir_types.specs.declared.summary.Summary.{Summary}
@@ -16,7 +16,7 @@ use Rattle.ir_types.specs.declared.summary.Entry.{Entry}
 use Rattle.ir_types.specs.declared.summary.Entry.TheVariants as entries
 use Rattle.ir_types.specs.Replaced.{Definitions, definition, both, joined, one_with, over, expansion, replaced, nodes_of, node_count, odd_of, first_odd}
 use Rattle.ir_types.specs.Summaries.{known_of, with_named, with_part, summary_step, IsSummary, IsKnown}
-use Rattle.ir_types.proofs.Lists.{same_Ok, err-ok}
+use Rattle.ir_types.proofs.TypeLists.{same_Ok, err-ok}
 
 pub both_inv : (a b : Option (List Part)) (flat : List Part) → both a b ≡ Some flat → (x : List Part) × (y : List Part) × (a ≡ Some x) × (b ≡ Some y) × (flat ≡ x ++ y)
 both_inv None b flat e = absurd (none-some flat e)

@@ -12,12 +12,12 @@ use Rattle.ir_types.specs.declared.summary.Entry.{Entry}
 use Rattle.ir_types.specs.declared.summary.Entry.TheVariants as entries
 use Rattle.ir_types.specs.declared.resolve.Frame.{Frame}
 use Rattle.ir_types.specs.declared.resolve.Resolver.{Resolver}
-use Rattle.ir_names.specs.declared.fault.Fault.{Fault}
-use Rattle.ir_names.specs.Walk.{walk}
+use Rattle.ir_types.specs.declared.fault.Fault.{Fault}
+use Rattle.ir_types.specs.Walk.{walk}
 use Rattle.ir_types.specs.Replaced.{Definitions, definition, expansion, replaced, node_count, first_odd, Mentions, Holds, directly, further}
 use Rattle.ir_types.specs.Summaries.{summary_step, summary_of, no_parts, root_in, root_at, root_of, IsSummary, IsKnown, Follows, Tells, AreResolved}
 use Rattle.ir_types.specs.Resolving.{IsRun, IsCounted, Sound, IsAt, Touches, Settled, Started, IsTouched, AreTouched}
-use Rattle.ir_types.proofs.Lists.{get_last, get_front, get_either, set_same, set_cases, set_other, same_Ok, take_next, get_before, one_item}
+use Rattle.ir_types.proofs.TypeLists.{get_last, get_front, get_either, set_same, set_cases, set_other, same_Ok, take_next, get_before, one_item}
 use Rattle.ir_types.proofs.Following.{Keeps, closing, walk_last, summary_keeps, follows_keeps}
 use Rattle.ir_types.proofs.Replacing.{deeper, name_alone, expanded, summary_on, nothing_replaced}
 

@@ -9,10 +9,10 @@ use Rattle.ir_core.specs.declared.types.MemTy.TheFolds.{ind-MemTy, map-MemTy}
 use Rattle.ir_core.specs.declared.layout.Extent.{Extent}
 use Rattle.ir_core.specs.Layout.{Measure, measure, greatest_of, array_extent, struct_extent, extents, extent_of, int_extent, HasSizesWithin}
 use Rattle.ir_core.proofs.Layouts.{measure-Int, measure-Ptr, measure-Array, measure-Struct, extent-Int, extent-Ptr, extent-Array, extent-Struct, extents-measure}
-use Rattle.ir_limits.specs.declared.sizes.Measured.{Measured}
-use Rattle.ir_limits.specs.First.{or_then}
-use Rattle.ir_limits.specs.Limits.{capped_passing, own_or_parts, first_passing, extents_of, measured}
-use Rattle.ir_limits.proofs.Stops.{measured-Int, measured-Ptr, measured-Array, measured-Struct}
+use Rattle.ir_flow.specs.declared.sizes.Measured.{Measured}
+use Rattle.ir_flow.specs.First.{or_then}
+use Rattle.ir_flow.specs.Limits.{capped_passing, own_or_parts, first_passing, extents_of, measured}
+use Rattle.ir_flow.proofs.Stops.{measured-Int, measured-Ptr, measured-Array, measured-Struct}
 
 lt_not : (a b : ℕ) → nat_lt a b ≡ false → b ≤ a
 lt_not a b h = grind (arith, nat_tests)

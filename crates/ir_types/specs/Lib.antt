@@ -1,3 +1,6 @@
+pub mod Walk
+pub mod Numbers
+pub mod Tables
 pub mod Names
 pub mod Parts
 pub mod Replaced

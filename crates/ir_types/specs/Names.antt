@@ -4,12 +4,12 @@ use Rattle.ir_text.specs.declared.name.Name.{Name}
 use Rattle.ir_text.specs.declared.token.Spelling.{Spelling}
 use Rattle.ir_text.specs.declared.token.Spelling.TheVariants.{Bare, Numbered, Quoted}
 use Rattle.ir_text.specs.Quoted.{said}
-use Rattle.ir_names.specs.declared.fault.Fault.{Fault}
-use Rattle.ir_names.specs.declared.fault.Fault.TheVariants as faults
-use Rattle.ir_names.specs.declared.tables.Target.{Target}
-use Rattle.ir_names.specs.Walk.{◌>>=◌, or_fault}
-use Rattle.ir_names.specs.Numbers.{natural}
-use Rattle.ir_names.specs.Tables.{target_named, target_numbered, put_named, put_numbered}
+use Rattle.ir_types.specs.declared.fault.Fault.{Fault}
+use Rattle.ir_types.specs.declared.fault.Fault.TheVariants as faults
+use Rattle.ir_types.specs.declared.tables.Target.{Target}
+use Rattle.ir_types.specs.Walk.{◌>>=◌, or_fault}
+use Rattle.ir_types.specs.Numbers.{natural}
+use Rattle.ir_types.specs.Tables.{target_named, target_numbered, put_named, put_numbered}
 use Rattle.ir_types.specs.declared.names.Table.{Table}
 
 abbrev pub is_numbered : Spelling → Bool

@@ -2,15 +2,15 @@
 use Rattle.std.specs.Prelude.{ℕ, ◌^◌, nat_eq, nat_le, nat_lt, List, [], ◌∷◌, ◌++◌, Option, Some, None, Result, Ok, Err, if◌then◌else◌}
 use Rattle.ir_text.specs.declared.name.Name.{Name}
 use Rattle.ir_text.specs.declared.name.Number.{Number}
-use Rattle.ir_words.specs.declared.tree.TypeNode.{TypeNode}
-use Rattle.ir_words.specs.declared.tree.TypeNode.TheVariants as nodes
+use Rattle.ir_grammar.specs.declared.type_tree.TypeNode.{TypeNode}
+use Rattle.ir_grammar.specs.declared.type_tree.TypeNode.TheVariants as nodes
 use Rattle.ir_core.specs.declared.types.TheConstants.{MAX_WIDTH}
-use Rattle.ir_names.specs.declared.fault.Fault.{Fault}
-use Rattle.ir_names.specs.declared.fault.Fault.TheVariants as faults
-use Rattle.ir_names.specs.declared.tables.Target.{Target}
-use Rattle.ir_names.specs.declared.tables.Target.TheVariants as targets
-use Rattle.ir_names.specs.Walk.{◌>>=◌, or_fault, walk}
-use Rattle.ir_names.specs.Numbers.{natural}
+use Rattle.ir_types.specs.declared.fault.Fault.{Fault}
+use Rattle.ir_types.specs.declared.fault.Fault.TheVariants as faults
+use Rattle.ir_types.specs.declared.tables.Target.{Target}
+use Rattle.ir_types.specs.declared.tables.Target.TheVariants as targets
+use Rattle.ir_types.specs.Walk.{◌>>=◌, or_fault, walk}
+use Rattle.ir_types.specs.Numbers.{natural}
 use Rattle.ir_types.specs.declared.names.Table.{Table}
 use Rattle.ir_types.specs.declared.parts.Part.{Part}
 use Rattle.ir_types.specs.declared.parts.Part.TheVariants as parts

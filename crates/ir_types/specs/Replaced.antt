@@ -1,7 +1,7 @@
 -- Named types, each replaced by its definition.
 use Rattle.std.specs.Prelude.{◌≡◌, ℕ, zero, suc, ◌+◌, ◌⊎◌, List, [], ◌∷◌, ◌++◌, Option, Some, None, slice_get, if◌then◌else◌}
 use Rattle.ir_core.specs.Layout.{is_memory_width}
-use Rattle.ir_limits.specs.First.{or_then}
+use Rattle.ir_flow.specs.First.{or_then}
 use Rattle.ir_types.specs.declared.parts.Part.{Part}
 use Rattle.ir_types.specs.declared.parts.Part.TheVariants as parts
 

@@ -1,6 +1,6 @@
 -- Named types while they are resolved: a walk through definitions, the innermost one last.
 use Rattle.std.specs.Prelude.{◌≡◌, ◌≤◌, ℕ, suc, Bool, false, nat_eq, nat_le, List, [], length, take, Option, Some, None, Result, Ok, Err, slice_get, if◌then◌else◌}
-use Rattle.ir_names.specs.declared.fault.Fault.{Fault}
+use Rattle.ir_types.specs.declared.fault.Fault.{Fault}
 use Rattle.ir_types.specs.declared.parts.Part.{Part}
 use Rattle.ir_types.specs.declared.parts.Part.TheVariants as parts
 use Rattle.ir_types.specs.declared.summary.Summary.{Summary}

@@ -1,10 +1,10 @@
 -- What is known of types without writing them out.
 use Rattle.std.specs.Prelude.{◌≡◌, ℕ, ◌+◌, max, nat_eq, nat_le, List, length, Option, Some, None, Result, Ok, Err, slice_get, if◌then◌else◌}
-use Rattle.ir_limits.specs.First.{or_then}
-use Rattle.ir_limits.specs.Limits.{capped}
-use Rattle.ir_names.specs.declared.fault.Fault.{Fault}
-use Rattle.ir_names.specs.declared.fault.Fault.TheVariants as faults
-use Rattle.ir_names.specs.Walk.{◌>>=◌, walk}
+use Rattle.ir_flow.specs.First.{or_then}
+use Rattle.ir_flow.specs.Limits.{capped}
+use Rattle.ir_types.specs.declared.fault.Fault.{Fault}
+use Rattle.ir_types.specs.declared.fault.Fault.TheVariants as faults
+use Rattle.ir_types.specs.Walk.{◌>>=◌, walk}
 use Rattle.ir_types.specs.declared.parts.Part.{Part}
 use Rattle.ir_types.specs.declared.parts.Part.TheVariants as parts
 use Rattle.ir_types.specs.declared.summary.Summary.{Summary}

@@ -1,17 +1,17 @@
 -- The types that the text of a module says.
 use Rattle.std.specs.Prelude.{ℕ, nat_lt, List, [], ◌∷◌, Option, Some, None, Result, Ok, Err, slice_get, if◌then◌else◌}
 use Rattle.ir_text.specs.declared.name.Name.{Name}
-use Rattle.ir_words.specs.declared.tree.TypeNode.{TypeNode}
-use Rattle.ir_words.specs.declared.tree.TypeNode.TheVariants as nodes
+use Rattle.ir_grammar.specs.declared.type_tree.TypeNode.{TypeNode}
+use Rattle.ir_grammar.specs.declared.type_tree.TypeNode.TheVariants as nodes
 use Rattle.ir_core.specs.declared.types.Ty.{Ty}
 use Rattle.ir_core.specs.declared.types.Ty.TheVariants as values
 use Rattle.ir_core.specs.declared.types.MemTy.{MemTy}
 use Rattle.ir_core.specs.declared.program.What.TheVariants as what
-use Rattle.ir_limits.specs.Limits.{measured, capped_passing}
-use Rattle.ir_names.specs.declared.fault.Fault.{Fault}
-use Rattle.ir_names.specs.declared.fault.Fault.TheVariants as faults
-use Rattle.ir_names.specs.Walk.{◌>>=◌}
-use Rattle.ir_names.specs.Numbers.{natural}
+use Rattle.ir_flow.specs.Limits.{measured, capped_passing}
+use Rattle.ir_types.specs.declared.fault.Fault.{Fault}
+use Rattle.ir_types.specs.declared.fault.Fault.TheVariants as faults
+use Rattle.ir_types.specs.Walk.{◌>>=◌}
+use Rattle.ir_types.specs.Numbers.{natural}
 use Rattle.ir_types.specs.declared.parts.Part.{Part}
 use Rattle.ir_types.specs.declared.parts.Part.TheVariants as parts
 use Rattle.ir_types.specs.declared.table.Types.{Types}

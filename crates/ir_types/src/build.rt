@@ -1,13 +1,13 @@
 //! The type of memory that parts say.
 ghost use Rattle.std.specs.Prelude.{◌≡◌, ◌++◌, ◌∷◌, [], reverse, Ok};
-ghost use Rattle.ir_names.specs.Walk.{Gives};
+ghost use Rattle.ir_types.specs.Walk.{Gives};
 ghost use Rattle.ir_types.specs.Build.{completed, closed, begun, plain_part, build_step, place, place_with, place_named, built};
 
+use crate::fault::Fault;
 use crate::parts::Part;
 use crate::resolve::definition;
 use crate::summary::{Entry, known_of};
 use ir_core::types::MemTy;
-use ir_names::Fault;
 use sqlite_items::{Boxed, Items};
 use std::alloc::Global;
 

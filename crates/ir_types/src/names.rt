@@ -1,8 +1,10 @@
 ghost use Rattle.std.specs.Prelude.{◌≡◌, []};
-ghost use Rattle.ir_names.specs.Walk.{Gives};
+ghost use Rattle.ir_types.specs.Walk.{Gives};
 ghost use Rattle.ir_types.specs.Names.{is_numbered, bytes_of, number_of, target_of, small_number, named_target, numbered_target, defined, number_defined, bytes_defined};
 
-use ir_names::{Fault, Named, Numbered, Target, natural};
+use crate::fault::Fault;
+use crate::number::natural;
+use crate::tables::{Named, Numbered, Target};
 use ir_text::{Name, Spelling, said};
 use sqlite_items::Items;
 use std::alloc::Global;

@@ -1,13 +1,16 @@
 //! The parts of a type: widths and counts as numbers, names as the types that they stand for.
 ghost use Rattle.std.specs.Prelude.{◌≡◌, ◌^◌, ℕ};
-ghost use Rattle.ir_names.specs.Walk.{Gives};
+ghost use Rattle.ir_types.specs.Walk.{Gives};
 ghost use Rattle.ir_types.specs.Parts.{width_of, small_count, count_of, type_number, named_type, int_part, array_part, named_part, part_of, part_step, parts_of};
 
+use crate::fault::Fault;
+use crate::lists::{Step, walk};
 use crate::names::{Table, target_of};
+use crate::number::natural;
+use crate::tables::Target;
 use ir_core::types::MAX_WIDTH;
-use ir_names::{Fault, Step, Target, natural, walk};
+use ir_grammar::type_tree::TypeNode;
 use ir_text::{Name, Number};
-use ir_words::tree::TypeNode;
 use sqlite_items::Items;
 use std::alloc::Global;
 

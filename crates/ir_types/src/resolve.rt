@@ -1,13 +1,13 @@
 //! Named types by their definitions, with a list of what is being gone through in place of recursion.
 ghost use Rattle.std.specs.Prelude.{◌≡◌, ◌+◌, ◌≤◌, ◌<◌, ◌++◌, ◌∷◌, [], ℕ, length, option_copied, slice_get, Some, Ok, OnOk, IsSome, replicate};
-ghost use Rattle.ir_names.specs.Walk.{Gives};
+ghost use Rattle.ir_types.specs.Walk.{Gives};
 ghost use Rattle.ir_types.specs.Replaced.{definition};
 ghost use Rattle.ir_types.specs.Summaries.{no_parts, root_in, root_at, root_of, summary_step, IsResolution};
 ghost use Rattle.ir_types.specs.Resolving.{Sound, IsAt, Moved, Turned, Settled, Started};
 
+use crate::fault::Fault;
 use crate::parts::Part;
 use crate::summary::{Entry, NO_PARTS, Summary, summary_step};
-use ir_names::Fault;
 use sqlite_items::Items;
 use std::alloc::Global;
 

@@ -1,14 +1,15 @@
 //! What is known of types without writing them out.
 ghost use Rattle.std.specs.Prelude.{◌≡◌, ◌+◌, ◌-◌, ◌^◌, min, ℕ, slice_get, length, Ok};
 ghost use Rattle.ir_core.specs.Layout.{is_memory_width};
-ghost use Rattle.ir_limits.specs.First.{or_then};
-ghost use Rattle.ir_names.specs.Walk.{Gives};
+ghost use Rattle.ir_flow.specs.First.{or_then};
+ghost use Rattle.ir_types.specs.Walk.{Gives};
 ghost use Rattle.ir_types.specs.Replaced.{nodes_of, odd_of};
 ghost use Rattle.ir_types.specs.Summaries.{known_of, with_named, with_part, summary_step, summary_of};
 
+use crate::fault::Fault;
+use crate::lists::Step;
 use crate::parts::Part;
 use ir_core::types::MAX_WIDTH;
-use ir_names::{Fault, Step};
 use sqlite_items::Items;
 
 /// What is known of a type without writing it out.

@@ -1,23 +1,25 @@
 //! The types that the text of a module says.
 ghost use Rattle.std.specs.Prelude.{◌≡◌, ℕ, Ok, None, OnOk, IfOk, option_copied};
 ghost use Rattle.ir_core.specs.Layout.{HasSizesWithin};
-ghost use Rattle.ir_limits.specs.Limits.{measured, capped_passing};
-ghost use Rattle.ir_names.specs.Walk.{Gives};
+ghost use Rattle.ir_flow.specs.Limits.{measured, capped_passing};
+ghost use Rattle.ir_types.specs.Walk.{Gives};
 ghost use Rattle.ir_types.specs.Replaced.{definition};
 ghost use Rattle.ir_types.specs.Summaries.{summary_of};
 ghost use Rattle.ir_types.specs.Types.{first_part, scalar_at, named_scalar, int_type, named_value, value_part, type_of, few_nodes, all_stand, few_bytes, memory};
 
 use crate::build::{Known, built};
+use crate::fault::Fault;
+use crate::lists::walk;
 use crate::names::Table;
+use crate::number::natural;
 use crate::parts::{Part, named_type, parts_of, width_of};
 use crate::resolve::definition;
 use crate::summary::{Entry, NO_PARTS, Summary, known_of};
 use ir_core::program::What;
 use ir_core::types::{MemTy, Ty};
-use ir_limits::sizes::measure_of;
-use ir_names::{Fault, natural, walk};
+use ir_flow::sizes::measure_of;
+use ir_grammar::type_tree::TypeNode;
 use ir_text::Name;
-use ir_words::tree::TypeNode;
 use sqlite_items::Items;
 use std::alloc::Global;
 

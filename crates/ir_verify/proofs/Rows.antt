@@ -5,8 +5,8 @@ use Rattle.std.specs.Option.{is_some}
 use Rattle.std.specs.Prelude.{MatchOption}
 use Rattle.ir_core.specs.declared.program.Function.{Function}
 use Rattle.ir_core.specs.declared.program.Module.{Module}
-use Rattle.ir_limits.specs.First.{or_then, first_in}
-use Rattle.ir_limits.specs.Limits.{Passed, limit_passed}
+use Rattle.ir_flow.specs.First.{or_then, first_in}
+use Rattle.ir_flow.specs.Limits.{Passed, limit_passed}
 use Rattle.ir_flow.specs.Assigned.{IsUsable}
 use Rattle.ir_verify.specs.declared.refusal.VerifyRefusal.{VerifyRefusal}
 use Rattle.ir_verify.specs.declared.refusal.VerifyRefusal.TheVariants.{Limit, Shape, Range, EntryEdge, BadType, CallShape, PhiEdges, NotAssigned, NoMemory}

@@ -24,7 +24,7 @@ use Rattle.ir_core.specs.Units.{instructions, types_in, types_of_arguments, valu
 use Rattle.ir_meaning.specs.Operators.{width}
 use Rattle.ir_meaning.specs.Step.{Program, function_at, insts_at, insts_of}
 use Rattle.ir_meaning.specs.Typed.{types, IsInteger, IsValueType, IsResultType, IsStored, IsOperand, AreArguments, AreIndices, ArePairs, AreCases, IsCast, IsLength, IsBuiltIn, IsCallee, IsReturned, IsOp, IsTypedFunction, IsTyped}
-use Rattle.ir_limits.specs.First.{first_refused, or_then}
+use Rattle.ir_flow.specs.First.{first_refused, or_then}
 use Rattle.ir_flow.specs.Code.{places, typed_pairs, pair_blocks, case_blocks, blocks_named}
 use Rattle.ir_verify.specs.Ranges.{is_width, has_width, all_have_widths, names_what_is, all_named, number_fits_width, all_below, all_cases_fit, names_more, is_in_range, is_parameter, all_parameters, at_first, out_of_range}
 use Rattle.ir_verify.specs.Types.{is_void, is_ptr, is_int, is_int_of, same_type, has_type, fits_place, all_fit_places, width_of, is_narrow, is_cast, is_stored, is_length, is_number, is_zero, is_false, is_built_in, all_int, leads_into, is_part, is_returned, gives_type, is_typed, mistyped}

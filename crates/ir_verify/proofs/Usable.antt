@@ -17,8 +17,8 @@ use Rattle.ir_core.specs.declared.program.Module.{Module}
 use Rattle.ir_core.specs.declared.program.What.{What}
 use Rattle.ir_core.specs.declared.program.What.TheVariants.{Functions, Globals, Parameters, Units}
 use Rattle.ir_core.specs.Units.{instructions, units, results, values, types_in}
-use Rattle.ir_limits.specs.First.{first_refused, or_then, first_in}
-use Rattle.ir_limits.specs.Limits.{Passed, above, function_limit, functions_limit, globals_limit, insts_limit, limit_passed}
+use Rattle.ir_flow.specs.First.{first_refused, or_then, first_in}
+use Rattle.ir_flow.specs.Limits.{Passed, above, function_limit, functions_limit, globals_limit, insts_limit, limit_passed}
 use Rattle.ir_flow.specs.declared.uses.Use.{Use}
 use Rattle.ir_flow.specs.Code.{places, typed_pairs, targets, targets_of_last, edges, edges_of, pair_blocks, blocks_named}
 use Rattle.ir_flow.specs.Assigned.{first_values, firsts_of, use_of, uses_of_places, uses_of_pairs, uses_of, behind, uses_in_block, uses_in_blocks, uses, IsUsable}

@@ -12,7 +12,7 @@ use Rattle.ir_core.specs.declared.program.Function.{Function}
 use Rattle.ir_core.specs.declared.program.Module.{Module}
 use Rattle.ir_core.specs.Units.{instructions}
 use Rattle.ir_flow.specs.Code.{edges, pair_blocks}
-use Rattle.ir_limits.specs.First.{first_refused, or_then}
+use Rattle.ir_flow.specs.First.{first_refused, or_then}
 use Rattle.ir_meaning.specs.Step.{Program}
 use Rattle.ir_verify.specs.Calls.{wrong_callee, numbered, first_wrong_call, wrong_call}
 use Rattle.ir_verify.specs.Phis.{times, all_agree, matches_edges, is_phi_of, all_phis, first_wrong_phis, wrong_phis}

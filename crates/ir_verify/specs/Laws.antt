@@ -9,7 +9,7 @@ use Rattle.ir_core.specs.declared.program.Module.{Module}
 use Rattle.ir_core.specs.Units.{instructions}
 use Rattle.ir_flow.specs.Code.{edges, pair_blocks}
 use Rattle.ir_flow.specs.Assigned.{AllAssigned}
-use Rattle.ir_limits.specs.Limits.{limit_passed}
+use Rattle.ir_flow.specs.Limits.{limit_passed}
 use Rattle.ir_meaning.specs.Step.{Program}
 use Rattle.ir_meaning.specs.Typed.{IsTyped}
 use Rattle.ir_verify.specs.Calls.{wrong_callee}

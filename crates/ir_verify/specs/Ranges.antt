@@ -19,7 +19,7 @@ use Rattle.ir_core.specs.Layout.{is_memory_width}
 use Rattle.ir_core.specs.Units.{instructions, types_in, values}
 use Rattle.ir_meaning.specs.Operators.{width}
 use Rattle.ir_flow.specs.Code.{places, blocks_named}
-use Rattle.ir_limits.specs.First.{first_refused, or_then}
+use Rattle.ir_flow.specs.First.{first_refused, or_then}
 
 -- an integer has a width from 1 to the greatest
 abbrev pub is_width : ℕ → Bool

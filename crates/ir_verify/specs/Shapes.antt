@@ -7,7 +7,7 @@ use Rattle.ir_core.specs.declared.code.Inst.{Inst}
 use Rattle.ir_core.specs.declared.code.Block.{Block}
 use Rattle.ir_core.specs.declared.program.Function.{Function}
 use Rattle.ir_flow.specs.Code.{is_terminator, is_phi, is_alloca, edges}
-use Rattle.ir_limits.specs.First.{first_refused}
+use Rattle.ir_flow.specs.First.{first_refused}
 
 -- there is a terminator, and the first one is the last instruction
 abbrev pub ends_once : List Inst → Bool

@@ -19,7 +19,7 @@ use Rattle.ir_core.specs.declared.program.Function.{Function}
 use Rattle.ir_core.specs.Layout.{is_memory_width}
 use Rattle.ir_core.specs.Units.{instructions}
 use Rattle.ir_flow.specs.Code.{places}
-use Rattle.ir_limits.specs.First.{first_refused}
+use Rattle.ir_flow.specs.First.{first_refused}
 use Rattle.ir_meaning.specs.Typed.{types}
 
 abbrev pub is_void : Ty → Bool

@@ -5,8 +5,8 @@ use Rattle.ir_core.specs.declared.program.Module.{Module}
 use Rattle.ir_meaning.specs.Step.{Program}
 use Rattle.ir_verify.specs.declared.refusal.VerifyRefusal.{VerifyRefusal}
 use Rattle.ir_verify.specs.declared.refusal.VerifyRefusal.TheVariants.{Limit, Shape, Range, EntryEdge, BadType, CallShape, PhiEdges, NotAssigned, NoMemory}
-use Rattle.ir_limits.specs.First.{or_then, first_in}
-use Rattle.ir_limits.specs.Limits.{Passed, limit_passed}
+use Rattle.ir_flow.specs.First.{or_then, first_in}
+use Rattle.ir_flow.specs.Limits.{Passed, limit_passed}
 use Rattle.ir_verify.specs.Shapes.{misshapen, jumps_to_entry}
 use Rattle.ir_verify.specs.Ranges.{out_of_range, all_globals}
 use Rattle.ir_verify.specs.Types.{mistyped}

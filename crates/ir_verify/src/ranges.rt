@@ -1,7 +1,7 @@
 // Numbers that name something, and the widths of types.
 ghost use Rattle.std.specs.Prelude.{◌≡◌, ◌<◌, ◌≤◌, ◌^◌, length, map, Option, Some, None};
 ghost use Rattle.ir_core.specs.Units.{instructions, types_in, types_of_arguments, values};
-ghost use Rattle.ir_limits.specs.First.{first_refused};
+ghost use Rattle.ir_flow.specs.First.{first_refused};
 ghost use Rattle.ir_flow.specs.Code.{pair_blocks, case_blocks, blocks_named as blocks_named_by, places, typed_pairs};
 ghost use Rattle.ir_verify.specs.Ranges.{is_width as is_width_number, has_width as has_width_of, all_have_widths as all_have_widths_in, names_what_is as names_what_is_there, all_named as all_named_there, all_below, all_cases_fit as all_cases_fit_in, is_parameter as is_parameter_type, all_parameters as all_parameters_of, number_fits_width, all_true, has_memory_widths as has_memory_widths_in, names_more as names_more_there, is_in_range as is_in_range_there, out_of_range as out_of_range_in};
 

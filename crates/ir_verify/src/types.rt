@@ -1,7 +1,7 @@
 // The types of operands and results.
 ghost use Rattle.std.specs.Prelude.{◌≡◌, ℕ, ◌+◌, ◌^◌, ◌<◌, ◌≤◌, length, map, slice_get, drop, Option, Some, None, [], ◌∷◌, ◌++◌, IfOk, OnOk};
 ghost use Rattle.ir_flow.specs.Code.{places, typed_pairs};
-ghost use Rattle.ir_limits.specs.First.{first_refused};
+ghost use Rattle.ir_flow.specs.First.{first_refused};
 ghost use Rattle.ir_meaning.specs.Typed.{types as types_of};
 ghost use Rattle.std.specs.Option.{option_copied};
 ghost use Rattle.ir_core.specs.Layout.{is_memory_width as is_memory_width_number};

@@ -1,8 +1,8 @@
 // The rows of the verifier's table in their order, over the whole module.
 ghost use Rattle.std.specs.Prelude.{◌≡◌, ◌%◌, ◌+◌, ◌^◌, ◌<◌, ◌≤◌, All, length, Option, Some, None, IfOk, IfErr, MatchOption};
 ghost use Rattle.ir_core.specs.Units.{instructions, values};
-ghost use Rattle.ir_limits.specs.First.{or_then};
-ghost use Rattle.ir_limits.specs.Limits.{limit_passed as limit_passed_of};
+ghost use Rattle.ir_flow.specs.First.{or_then};
+ghost use Rattle.ir_flow.specs.Limits.{limit_passed as limit_passed_of};
 ghost use Rattle.ir_flow.specs.Assigned.{IsUsable, IsUnassigned};
 ghost use Rattle.ir_verify.specs.Small.{IsSmall, HasFewBlocks};
 ghost use Rattle.ir_verify.specs.Verdict.{of_passed, shape_refusal, range_refusal, entry_refusal, type_refusal, call_refusal, phi_refusal, refusal as refusal_of, AllUsesAssigned, Passes, Refuses, program_of};
@@ -17,7 +17,7 @@ use crate::shapes::misshapen;
 use crate::types::{mistyped, value_types};
 use ir_core::program::Module;
 use ir_flow::assigned::find_unassigned;
-use ir_limits::limits::limit_passed;
+use ir_flow::limits::limit_passed;
 use rj_num::NoMemory;
 use sqlite_items::Items;
 use std::alloc::Global;

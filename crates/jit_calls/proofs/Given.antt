@@ -4,7 +4,7 @@ use Rattle.std.specs.Prelude.{nat_le, ◌&&◌, codes}
 use Rattle.std.specs.Option.{option_and_then, option_map}
 use Rattle.std.proofs.lemmas.Bool.{and_parts, leb-true}
 use Rattle.ir_core.specs.declared.program.Global.{Global}
-use Rattle.ir_names.specs.Numbers.{decimal}
+use Rattle.ir_types.specs.Numbers.{decimal}
 use Rattle.jit_calls.specs.declared.line.Written.{Written}
 use Rattle.jit_calls.specs.Form.{Form, ◌>>=◌, yield, chosen, by_next, begins, literal, whole, if_ended}
 use Rattle.jit_calls.specs.Numbers.{some_digits, if_between, number_between}

@@ -6,9 +6,9 @@ use Rattle.std.specs.Str.{bytes_eq}
 use Rattle.std.proofs.lemmas.List.{length-map}
 use Rattle.ir_core.specs.declared.program.Function.{Function}
 use Rattle.ir_core.specs.declared.program.Global.{Global}
-use Rattle.ir_names.specs.declared.tables.Target.{Target}
-use Rattle.ir_names.specs.declared.tables.Target.TheVariants as targets
-use Rattle.ir_names.specs.Tables.{target_named, put_named}
+use Rattle.ir_types.specs.declared.tables.Target.{Target}
+use Rattle.ir_types.specs.declared.tables.Target.TheVariants as targets
+use Rattle.ir_types.specs.Tables.{target_named, put_named}
 use Rattle.jit_calls.specs.Names.{table_from, place_of, place_in, function_named, function_name, global_named, global_name}
 
 abbrev AreBelow : ℕ → List (List ℕ × Target) → Type 0

@@ -9,7 +9,7 @@ use Rattle.ir_core.specs.declared.program.Global.{Global}
 use Rattle.ir_meaning.specs.Image.{address_of}
 use Rattle.ir_meaning.specs.Operators.{width}
 use Rattle.ir_meaning.specs.declared.calls.ListedCall.{ListedCall}
-use Rattle.ir_names.specs.Numbers.{decimal}
+use Rattle.ir_types.specs.Numbers.{decimal}
 use Rattle.jit_calls.specs.declared.line.Written.{Written}
 use Rattle.jit_calls.specs.declared.line.LineFault.{LineFault}
 use Rattle.jit_calls.specs.declared.line.LineFault.TheVariants as faults

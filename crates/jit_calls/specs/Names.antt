@@ -5,9 +5,9 @@ use Rattle.ir_text.specs.Token.{Token, token_at, word, local, global, label, num
 use Rattle.ir_text.specs.Quoted.{said}
 use Rattle.ir_core.specs.declared.program.Function.{Function}
 use Rattle.ir_core.specs.declared.program.Global.{Global}
-use Rattle.ir_names.specs.declared.tables.Target.{Target}
-use Rattle.ir_names.specs.declared.tables.Target.TheVariants as targets
-use Rattle.ir_names.specs.Tables.{target_named, put_named}
+use Rattle.ir_types.specs.declared.tables.Target.{Target}
+use Rattle.ir_types.specs.declared.tables.Target.TheVariants as targets
+use Rattle.ir_types.specs.Tables.{target_named, put_named}
 use Rattle.jit_calls.specs.Form.{Form, begins}
 
 -- what the name of a global or function says, and what comes behind it

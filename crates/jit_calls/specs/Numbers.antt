@@ -2,7 +2,7 @@
 use Rattle.std.specs.Prelude.{ℕ, ◌==◌, ◌&&◌, true, false, nat_le, List, [], ◌∷◌, Option, Some, None, codes, if◌then◌else◌}
 use Rattle.std.specs.Char.{is_ascii_digit}
 use Rattle.ir_core.specs.declared.types.TheConstants.{MAX_WIDTH}
-use Rattle.ir_names.specs.Numbers.{decimal, literal}
+use Rattle.ir_types.specs.Numbers.{decimal, literal}
 use Rattle.jit_calls.specs.Form.{Form, ◌>>=◌, yield, chosen, by_next, begins, literal as these, run}
 
 abbrev pub if_some : List ℕ → Option (List ℕ)

@@ -3,11 +3,11 @@ use Rattle.std.specs.Prelude.{ℕ, ◌+◌, Bool, List, [], ◌∷◌, ◌++◌,
 use Rattle.ir_core.specs.declared.program.Function.{Function}
 use Rattle.ir_meaning.specs.declared.calls.ListedCall.{ListedCall}
 use Rattle.jit_calls.specs.Answers.{name_in, answer_lines}
-use Rattle.jit_calls.specs.declared.settled.JobRefusal.{JobRefusal}
-use Rattle.jit_calls.specs.declared.settled.JobRefusal.TheVariants as causes
-use Rattle.jit_calls.specs.declared.settled.RefusedJob.{RefusedJob}
-use Rattle.jit_calls.specs.declared.settled.SymbolRow.{SymbolRow}
-use Rattle.jit_calls.specs.declared.settled.Settled.{Settled}
+use Rattle.session_types.specs.declared.settled.JobRefusal.{JobRefusal}
+use Rattle.session_types.specs.declared.settled.JobRefusal.TheVariants as causes
+use Rattle.session_types.specs.declared.settled.RefusedJob.{RefusedJob}
+use Rattle.session_types.specs.declared.settled.SymbolRow.{SymbolRow}
+use Rattle.session_types.specs.declared.settled.Settled.{Settled}
 
 -- how often a symbol was entered, and the level and the words of its version
 abbrev pub row_text : SymbolRow → List ℕ

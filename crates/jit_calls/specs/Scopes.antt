@@ -1,6 +1,6 @@
 -- Tables of the names of a module.
 use Rattle.std.specs.Prelude.{◌≡◌, [], map, None}
-use Rattle.ir_limits.specs.Limits.{limit_passed}
+use Rattle.ir_flow.specs.Limits.{limit_passed}
 use Rattle.jit_calls.specs.declared.scope.Scope.{Scope}
 use Rattle.jit_calls.specs.Names.{function_name, global_name, table_from}
 

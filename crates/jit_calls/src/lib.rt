@@ -9,11 +9,9 @@ mod lists;
 mod numbers;
 mod report;
 mod scope;
-mod settled;
 #[cfg(test)]
 mod tests;
 
 pub use answers::{answer_text, any_no_answer, any_unanswered};
 pub use lists::{CallsRefusal, read_calls};
 pub use report::{eval_text, report_text, settled_text};
-pub use settled::{JobRefusal, RefusedJob, Settled, SymbolRow};

@@ -1,13 +1,13 @@
 // Numbers in a list of calls.
 ghost use Rattle.std.specs.Prelude.{◌≡◌, ◌≤◌, ◌<◌, ◌^◌, IfSome, IfNone};
-ghost use Rattle.ir_names.specs.Numbers.{decimal, literal};
+ghost use Rattle.ir_types.specs.Numbers.{decimal, literal};
 ghost use Rattle.jit_calls.specs.Numbers.{some_digits, if_between, number_between, number, width_of};
 ghost use Rattle.jit_calls.specs.Reads.{Steps};
 
 use crate::cursor::Cursor;
 use crate::form::Refusal;
 use ir_core::types::MAX_WIDTH;
-use ir_names::{literal, natural};
+use ir_types::{literal, natural};
 
 /// One digit or more.
 #[tactic(auto, unfolding(crate::specs::Numbers::some_digits))]

@@ -4,12 +4,12 @@ ghost use Rattle.jit_calls.specs.Answers.{name_in, answer_lines, outcome_lines};
 ghost use Rattle.jit_calls.specs.Reports.{row_text, row_line, row_lines, cause_text, refused_line, refused_lines, rows_text, report_lines};
 
 use crate::answers::{outcome_text, push_answers, push_name};
-use crate::settled::{JobRefusal, RefusedJob, Settled, SymbolRow};
 use ir_core::program::Function;
 use ir_meaning::calls::{ListedCall, Outcome};
-use ir_page::Page;
+use ir_print::Page;
 use ir_verify::checked::Checked;
 use rj_num::NoMemory;
+use session_types::{JobRefusal, RefusedJob, Settled, SymbolRow};
 use sqlite_items::at;
 use std::alloc::Global;
 

@@ -6,7 +6,7 @@ ghost use Rattle.jit_calls.specs.Scopes.{IsScope};
 
 use ir_core::program::{Function, Global as GlobalItem, Module};
 use ir_data::places::address_of;
-use ir_names::{Named, Target};
+use ir_types::{Named, Target};
 use ir_verify::checked::Checked;
 use rj_num::NoMemory;
 use std::alloc::Global;

@@ -7,6 +7,7 @@ use ir_core::types::{MemTy, Ty};
 use ir_meaning::calls::{Ended, Outcome};
 use ir_verify::checked::Checked;
 use ir_verify::verdict::verify;
+use session_types::{JobRefusal, RefusedJob, Settled, SymbolRow};
 use sqlite_items::Items;
 use std::alloc::{AllocError, Global};
 use std::test::Fail;

@@ -16,7 +16,7 @@ use Rattle.code_epochs.specs.Steps.{AllLinked, hart_split, new_part}
 use Rattle.code_epochs.proofs.Lists.{at_snoc, at_some, at_below}
 use Rattle.code_epochs.proofs.Seats.{split_sound}
 use Rattle.code_epochs.specs.declared.state.Status.TheVariants.{Linked, Unlinked}
-use Rattle.version_shelf.specs.Shelf.{count_staying}
+use Rattle.code_epochs.specs.Shelf.{count_staying}
 use Rattle.jit_core.specs.declared.publishing.Publishing.{Publishing}
 use Rattle.jit_core.specs.declared.publishing.Publishing.TheVariants.{Raising}
 use Rattle.jit_core.specs.declared.publishing.Pair.{Pair}

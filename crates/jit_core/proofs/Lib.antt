@@ -21,3 +21,4 @@ pub mod Ordering
 pub mod Finishing
 pub mod Opening
 pub mod Founding
+pub mod Draws

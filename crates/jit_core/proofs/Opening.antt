@@ -12,7 +12,7 @@ use Rattle.code_epochs.specs.declared.state.Status.TheVariants.{Linked}
 use Rattle.code_epochs.specs.Sound.{At, Whole, Sound, IsStateOf, start_of}
 use Rattle.code_epochs.specs.Steps.{unlink, unlinked, with_status, linked_of}
 use Rattle.code_epochs.proofs.Lists.{at_below, at_longer}
-use Rattle.version_shelf.specs.Shelf.{count_staying}
+use Rattle.code_epochs.specs.Shelf.{count_staying}
 use Rattle.jit_core.specs.declared.laying.Laying.{Laying}
 use Rattle.jit_core.specs.Laying.{LaysAs, IsFrame}
 use Rattle.jit_core.specs.Seated.{IsSameSize}

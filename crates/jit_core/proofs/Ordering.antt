@@ -7,7 +7,7 @@ use Rattle.code_epochs.specs.declared.state.VersionState.{VersionState}
 use Rattle.code_epochs.specs.Sound.{Whole, IsStateOf, start_of}
 use Rattle.code_space.specs.declared.FreeRange.{FreeRange}
 use Rattle.code_space.specs.Space.{Space, IsFree, HasRoom}
-use Rattle.version_shelf.specs.Shelf.{count_staying}
+use Rattle.code_epochs.specs.Shelf.{count_staying}
 use Rattle.jit_core.specs.declared.event.Event.TheVariants as event
 use Rattle.jit_core.specs.declared.event.Stepped.TheVariants as stepped
 use Rattle.jit_core.specs.declared.laying.Laying.{Laying}

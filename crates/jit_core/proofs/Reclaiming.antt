@@ -10,8 +10,8 @@ use Rattle.code_epochs.specs.Sound.{At, Stays, HasPassed, left, count_left, star
 use Rattle.code_epochs.specs.Steps.{unlinked, linked_of, with_status, RaisesEpoch, LooksAtHart, ClearsHeader, IsUnlinked, IsPending, AllPassed, epoch_raised, hart_looked, header_cleared, marked_by}
 use Rattle.code_epochs.proofs.Lists.{at_some, at_below}
 use Rattle.code_space.specs.Space.{Space, IsFree, IsTaken}
-use Rattle.version_shelf.specs.Shelf.{count_staying}
-use Rattle.version_shelf.proofs.Shelves.{count_set, count_link, one_stays}
+use Rattle.code_epochs.specs.Shelf.{count_staying}
+use Rattle.code_epochs.proofs.Shelves.{count_set, count_link, one_stays}
 use Rattle.jit_core.specs.declared.laying.Laying.{Laying}
 use Rattle.jit_core.specs.declared.publishing.Publishing.{Publishing}
 use Rattle.jit_core.specs.declared.publishing.Publishing.TheVariants.{Storing, Raising}

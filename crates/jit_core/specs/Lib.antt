@@ -10,3 +10,5 @@ pub mod Cores
 pub mod Simulated
 pub mod Finished
 pub mod First
+pub mod Drawn
+pub mod Ran

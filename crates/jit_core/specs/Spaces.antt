@@ -3,7 +3,7 @@ use Rattle.std.specs.Prelude.{◌≡◌, ℕ, ◌+◌, ◌<◌, ◌≤◌, List,
 use Rattle.code_epochs.specs.declared.state.VersionState.{VersionState}
 use Rattle.code_epochs.specs.Sound.{At, Stays, start_of}
 use Rattle.code_space.specs.Space.{Space, IsFree}
-use Rattle.version_shelf.specs.Shelf.{count_staying}
+use Rattle.code_epochs.specs.Shelf.{count_staying}
 use Rattle.jit_core.specs.declared.publishing.Publishing.{Publishing}
 use Rattle.jit_core.specs.declared.publishing.Publishing.TheVariants.{Storing, Raising}
 

@@ -1,6 +1,7 @@
-//! The core: harts, a keeper and orders as one machine over events, of which each makes at most one step on a shared word.
+//! The core: harts, a keeper and orders as one machine over events, of which each makes at most one step on a shared word, and runs of it over drawn events.
 #![tactic(auto)]
 
+mod draw;
 mod ending;
 mod event;
 mod first;
@@ -11,6 +12,7 @@ pub mod laws;
 mod laying;
 mod orders;
 mod publishing;
+mod run;
 mod search;
 mod seat;
 mod simulation;
@@ -18,5 +20,6 @@ mod state_machine;
 
 pub use ending::finish;
 pub use event::{Event, Stepped};
+pub use run::{Plan, Report, run_drawn};
 pub use simulation::simulate;
 pub use state_machine::Core;

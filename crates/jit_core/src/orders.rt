@@ -2,7 +2,7 @@
 ghost use Rattle.std.specs.Prelude.{◌≡◌, ◌<◌, ◌+◌, ℕ, length, None, vec_len, vec_capacity};
 ghost use Rattle.rv_play.specs.Good.{Good};
 ghost use Rattle.code_space.specs.Space.{HasRoom};
-ghost use Rattle.version_shelf.specs.Shelf.{count_staying};
+ghost use Rattle.code_epochs.specs.Shelf.{count_staying};
 ghost use Rattle.jit_core.specs.declared.event.Event.TheVariants as event;
 ghost use Rattle.jit_core.specs.declared.event.Stepped.TheVariants as stepped;
 ghost use Rattle.jit_core.specs.Cores.{IsKept, IsAnswer, IsSameCore, StandsMore, meaning_of};

@@ -7,22 +7,22 @@ use Rattle.ir_core.specs.declared.program.Module.{Module}
 use Rattle.ir_flow.specs.Flow.{Misses}
 use Rattle.ir_flow.specs.Assigned.{Passes as PassesBy, Shows, IsUseAssigned, IsUnassigned, firsts_of}
 use Rattle.ir_flow.specs.declared.uses.Use.{Use}
-use Rattle.ir_functions.specs.Functions.{IsModuleOf, module_with}
-use Rattle.ir_globals.proofs.One.{one_types}
+use Rattle.ir_reader.specs.Functions.{IsModuleOf, module_with}
+use Rattle.ir_resolve.proofs.One.{one_types}
 use Rattle.ir_meaning.specs.declared.calls.ListedCall.{ListedCall}
 use Rattle.ir_reader.specs.Reads.{Reads}
 use Rattle.ir_reader.specs.declared.reading.ReadRefusal.{ReadRefusal}
 use Rattle.ir_reader.specs.declared.reading.ReadRefusal.TheVariants as reading
 use Rattle.ir_reader.proofs.Refusals.{one_tree}
-use Rattle.ir_types.proofs.Lists.{same_Ok}
+use Rattle.ir_types.proofs.TypeLists.{same_Ok}
 use Rattle.ir_tree.specs.declared.tree.Tree.{Tree}
 use Rattle.ir_verify.specs.Verdict.{Passes, Refuses}
 use Rattle.ir_verify.specs.declared.refusal.VerifyRefusal.{VerifyRefusal}
 use Rattle.ir_verify.specs.declared.refusal.VerifyRefusal.TheVariants as rows
 use Rattle.jit_calls.specs.Lists.{calls_of}
 use Rattle.jit_calls.specs.declared.lists.CallsRefusal.{CallsRefusal}
-use Rattle.quick_module.specs.Modules.{Needs}
-use Rattle.quick_module.specs.Laws.{QuickNeedIsOne}
+use Rattle.fast_isel.specs.Modules.{Needs}
+use Rattle.fast_isel.specs.ModuleLaws.{QuickNeedIsOne}
 use Rattle.rj_io.specs.Faults.{Rose}
 use Rattle.command_words.specs.Commands.{Line, run, big, eval, sim, dump, command_of}
 use Rattle.jit_main.specs.declared.stop.Stop.{Stop}

@@ -17,10 +17,10 @@ use Rattle.hart.specs.Calls.{IsCall}
 use Rattle.hart.specs.declared.hart.Image.{Image}
 use Rattle.jit_calls.specs.Listed.{IsListed, AllListed}
 use Rattle.jit_core.specs.Seats.{AreCalls}
-use Rattle.event_runs.specs.declared.run.Plan.{Plan}
-use Rattle.event_runs.specs.declared.run.Report.{Report}
-use Rattle.event_runs.specs.Ran.{Ran, IsRightFor}
-use Rattle.jit_harts.specs.Runs.{IsImage, AllRight}
+use Rattle.jit_core.specs.declared.run.Plan.{Plan}
+use Rattle.jit_core.specs.declared.run.Report.{Report}
+use Rattle.jit_core.specs.Ran.{Ran, IsRightFor}
+use Rattle.jit_session.specs.Runs.{IsImage, AllRight}
 use Rattle.jit_main.specs.Images.{hart_image}
 use Rattle.jit_main.specs.Run.{IsImageFor}
 use Rattle.jit_main.proofs.Readying.{is_call_of, is_image, invocation_of}

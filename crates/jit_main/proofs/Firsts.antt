@@ -8,9 +8,9 @@ use Rattle.ir_meaning.specs.declared.calls.Ended.{Ended}
 use Rattle.ir_meaning.specs.declared.calls.ListedCall.{ListedCall}
 use Rattle.rv_play.specs.declared.version.Version.{Version}
 use Rattle.rv_play.specs.Good.{Good}
-use Rattle.quick_module.specs.Modules.{quick_from, AreQuick}
+use Rattle.fast_isel.specs.Modules.{quick_from, AreQuick}
 use Rattle.jit_core.specs.First.{AreQuick as AreFirstOfCore}
-use Rattle.jit_harts.specs.Runs.{AllRight}
+use Rattle.jit_session.specs.Runs.{AllRight}
 use Rattle.jit_session.specs.Sessions.{AreFirst}
 
 first-at : (program : Program) (n : ℕ) (versions : List Version) → quick_from program n versions → (k : ℕ) (v : Version) → At versions k v

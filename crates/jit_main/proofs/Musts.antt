@@ -4,14 +4,14 @@ use Rattle.std.specs.Prelude.{IfSome}
 use Rattle.std.proofs.lemmas.Bool.{cases_eq}
 use Rattle.ir_core.specs.Program.{Program}
 use Rattle.ir_meaning.specs.declared.calls.ListedCall.{ListedCall}
-use Rattle.quick_module.specs.Modules.{Needs, words_needed}
-use Rattle.quick_module.specs.Laws.{QuickNeedIsOne}
+use Rattle.fast_isel.specs.Modules.{Needs, words_needed}
+use Rattle.fast_isel.specs.ModuleLaws.{QuickNeedIsOne}
 use Rattle.rj_io.specs.Faults.{Rose}
 use Rattle.command_words.specs.Commands.{Line, run, big, eval, sim, dump, command_of}
 use Rattle.command_words.specs.declared.line.RunOptions.{RunOptions}
 use Rattle.command_words.specs.declared.line.SimOptions.{SimOptions}
-use Rattle.many_calls.specs.Texts as many
-use Rattle.jit_calls.specs.declared.settled.Settled.{Settled}
+use Rattle.jit_text.specs.ManyCallsTexts as many
+use Rattle.session_types.specs.declared.settled.Settled.{Settled}
 use Rattle.jit_main.specs.declared.stop.Stop.{Stop}
 use Rattle.jit_main.specs.declared.stop.Stop.TheVariants.{Usage, CannotRead, Unread, Unverified, TooBig, Uncalled, NoRoom, NoMemory}
 use Rattle.jit_main.specs.Commands.{AreTexts}

@@ -22,8 +22,8 @@ use Rattle.rv_play.specs.Link.{top_invocation}
 use Rattle.hart.specs.declared.hart.Image.{Image}
 use Rattle.hart.specs.Calls.{IsCall}
 use Rattle.jit_calls.specs.Listed.{IsListed, AllListed}
-use Rattle.jit_harts.specs.Calls.{AreCallsOf}
-use Rattle.jit_harts.specs.Runs.{IsImage}
+use Rattle.jit_session.specs.Calls.{AreCallsOf}
+use Rattle.jit_session.specs.Runs.{IsImage}
 use Rattle.jit_main.specs.Images.{hart_image}
 use Rattle.jit_main.specs.Run.{IsImageFor}
 

@@ -5,8 +5,8 @@ use Rattle.ir_core.specs.Program.{Program}
 use Rattle.ir_meaning.specs.declared.calls.ListedCall.{ListedCall}
 use Rattle.jit_calls.specs.Lists.{calls_of}
 use Rattle.command_words.specs.Commands.{Line, run, big, eval, sim, dump, command_of}
-use Rattle.many_calls.specs.Texts as many
-use Rattle.quick_module.specs.Modules.{Needs}
+use Rattle.jit_text.specs.ManyCallsTexts as many
+use Rattle.fast_isel.specs.Modules.{Needs}
 use Rattle.jit_main.specs.Dumps.{dump_room}
 use Rattle.jit_main.specs.Ends.{Sinks}
 use Rattle.jit_main.specs.Run.{IsCheckedText, HasImage}

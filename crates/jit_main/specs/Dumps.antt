@@ -2,8 +2,8 @@
 use Rattle.std.specs.Prelude.{◌≡◌, ℕ, List}
 use Rattle.ir_core.specs.Program.{Program}
 use Rattle.rv_play.specs.declared.version.Version.{Version}
-use Rattle.dump_text.specs.Parts.{parts}
-use Rattle.quick_module.specs.Modules.{AreQuick}
+use Rattle.jit_text.specs.Parts.{parts}
+use Rattle.fast_isel.specs.Modules.{AreQuick}
 use Rattle.jit_main.specs.Run.{IsCheckedText}
 
 -- the bytes of data memory of a module that is listed

@@ -3,11 +3,11 @@ use Rattle.std.specs.Prelude.{◌≡◌, ℕ, ◌≤◌, Bool, true, false, List
 use Rattle.std.specs.Fmt.{decimal}
 use Rattle.rj_io.specs.Faults.{Rose}
 use Rattle.rj_io.specs.Sinks.{Took}
-use Rattle.refusal_texts.specs.Texts.{unread_text, unverified_text, no_image_text, uncalled_text}
+use Rattle.jit_text.specs.RefusalTexts.{unread_text, unverified_text, no_image_text, uncalled_text}
 use Rattle.jit_main.specs.declared.stop.Stop.{Stop}
 use Rattle.jit_main.specs.declared.stop.Stop.TheVariants.{Usage, CannotRead, Unread, Unverified, TooBig, Uncalled, NoRoom, NoMemory}
 use Rattle.command_words.specs.Commands.{Line, run, big, eval, sim, dump, command_of}
-use Rattle.many_calls.specs.Texts as many
+use Rattle.jit_text.specs.ManyCallsTexts as many
 use Rattle.jit_main.specs.Commands.{IsText, AreTexts, IsNamed}
 use Rattle.jit_main.specs.Run.{NoModule, NoPass, NoImage, NoCalls, NoCode, Ran, Counted}
 use Rattle.jit_main.specs.Evals.{Evaluated}

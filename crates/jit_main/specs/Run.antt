@@ -10,7 +10,7 @@ use Rattle.ir_verify.specs.declared.refusal.VerifyRefusal.TheVariants as rows
 use Rattle.ir_meaning.specs.declared.calls.ListedCall.{ListedCall}
 use Rattle.rv_play.specs.declared.version.Version.{Version}
 use Rattle.ir_meaning.specs.Memory.{data_start}
-use Rattle.quick_module.specs.Modules.{AreQuick, Needs, words_needed}
+use Rattle.fast_isel.specs.Modules.{AreQuick, Needs, words_needed}
 use Rattle.jit_main.specs.declared.stop.Stop.{Stop}
 use Rattle.jit_main.specs.declared.stop.Stop.TheVariants.{NoRoom, NoMemory}
 use Rattle.ir_data.specs.declared.image.Image.{Image}
@@ -22,11 +22,11 @@ use Rattle.jit_calls.specs.declared.lists.CallsRefusal.TheVariants as lists
 use Rattle.jit_calls.specs.Lists.{calls_of}
 use Rattle.jit_calls.specs.Answers.{any_unanswered}
 use Rattle.jit_calls.specs.Reports.{report_lines, rows_text}
-use Rattle.jit_calls.specs.declared.settled.Settled.{Settled}
+use Rattle.session_types.specs.declared.settled.Settled.{Settled}
 use Rattle.jit_session.specs.Sessions.{IsSettled}
 use Rattle.command_words.specs.declared.line.RunOptions.{RunOptions}
-use Rattle.many_calls.specs.Texts as many
-use Rattle.many_calls.specs.Counts.{counts_line}
+use Rattle.jit_text.specs.ManyCallsTexts as many
+use Rattle.jit_text.specs.Counts.{counts_line}
 
 -- the text is that of a module that passes each row of the verifier, with so many bytes of data memory
 pub record IsCheckedText (text : List ℕ) (room : ℕ) (program : Program) : Type 0 where

@@ -5,13 +5,13 @@ use Rattle.ir_meaning.specs.declared.calls.ListedCall.{ListedCall}
 use Rattle.rv_play.specs.declared.version.Version.{Version}
 use Rattle.ir_data.specs.declared.image.Image.{Image as First}
 use Rattle.command_words.specs.declared.line.SimOptions.{SimOptions}
-use Rattle.event_runs.specs.declared.run.Plan.{Plan}
-use Rattle.event_runs.specs.declared.run.Report.{Report}
-use Rattle.event_runs.specs.Ran.{Ran as RanOverEvents}
+use Rattle.jit_core.specs.declared.run.Plan.{Plan}
+use Rattle.jit_core.specs.declared.run.Report.{Report}
+use Rattle.jit_core.specs.Ran.{Ran as RanOverEvents}
 use Rattle.jit_calls.specs.Lists.{calls_of}
 use Rattle.jit_calls.specs.Answers.{answer_lines, any_unanswered}
-use Rattle.jit_harts.specs.Runs.{AllRight}
-use Rattle.quick_module.specs.Modules.{AreQuick, words_needed}
+use Rattle.jit_session.specs.Runs.{AllRight}
+use Rattle.fast_isel.specs.Modules.{AreQuick, words_needed}
 use Rattle.jit_main.specs.Run.{IsCheckedText, IsImageFor}
 use Rattle.jit_main.specs.Images.{hart_image}
 

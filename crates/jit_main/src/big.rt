@@ -2,8 +2,8 @@
 ghost use Rattle.std.specs.Prelude.{◌≡◌, ◌++◌, [], IfOk, IfErr, if◌then◌else◌};
 ghost use Rattle.command_words.specs.Ranges.{AreRunOptions, IsBetween};
 ghost use Rattle.jit_calls.specs.Reports.{rows_text};
-ghost use Rattle.many_calls.specs.Counts.{counts_line as line_of_counts};
-ghost use Rattle.many_calls.specs.Texts as many;
+ghost use Rattle.jit_text.specs.Counts.{counts_line as line_of_counts};
+ghost use Rattle.jit_text.specs.ManyCallsTexts as many;
 ghost use Rattle.jit_main.specs.Run.{Counted};
 ghost use Rattle.jit_main.specs.Ends.{RunStop};
 
@@ -12,9 +12,9 @@ use crate::memory::OutOfMemory;
 use crate::run::{Session, session_of};
 use crate::stop::Stop;
 use command_words::RunOptions;
-use jit_bench::Gate;
 use jit_calls::{any_unanswered, settled_text};
-use many_calls::{counts_line, generate};
+use jit_session::Gate;
+use jit_text::{counts_line, generate};
 use reopt_policy::ReoptPolicy;
 use std::alloc::Global;
 use std::sync::Wait;

@@ -6,9 +6,9 @@ ghost use Rattle.jit_main.specs.Ends.{ModuleStop};
 
 use crate::front::module_of;
 use crate::stop::Stop;
-use dump_text::parts_text;
+use fast_isel::quick_versions;
 use ir_verify::checked::Checked;
-use quick_module::quick_versions;
+use jit_text::parts_text;
 use rj_num::NoMemory;
 use std::alloc::Global;
 

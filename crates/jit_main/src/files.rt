@@ -11,7 +11,7 @@ use crate::run::run_texts;
 use crate::sim::sim_texts;
 use crate::stop::Stop;
 use command_words::{RunOptions, SimOptions};
-use jit_bench::Gate;
+use jit_session::Gate;
 use reopt_policy::ReoptPolicy;
 use rj_io::{Files, LoadRefusal};
 use std::alloc::Global;

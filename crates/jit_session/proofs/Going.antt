@@ -5,14 +5,14 @@ use Rattle.ir_core.specs.Program.{Program}
 use Rattle.ir_meaning.specs.declared.calls.ListedCall.{ListedCall}
 use Rattle.entry_counts.specs.declared.counts.Counts.{Counts}
 use Rattle.redirect_cells.specs.declared.table.CodeTable.{CodeTable}
-use Rattle.jit_harts.specs.declared.runner.Runner.{Runner}
-use Rattle.jit_harts.specs.Opened.{IsDone, parts_of}
-use Rattle.jit_harts.specs.Runs.{Each}
-use Rattle.jit_harts.proofs.Ended.{all_done, can_run, parts_same}
-use Rattle.jit_workers.specs.declared.asking.Asking.{Asking}
-use Rattle.jit_workers.specs.declared.parts.Part.{Part}
-use Rattle.jit_workers.specs.Parts.{CanGo, Went, harts_of, asking_in, or_else}
-use Rattle.jit_workers.proofs.Lists.{all_can_go, all_went, harts_long, harts_ran, asker_left}
+use Rattle.jit_session.specs.declared.runner.Runner.{Runner}
+use Rattle.jit_session.specs.OpenedHarts.{IsDone, parts_of}
+use Rattle.jit_session.specs.Runs.{Each}
+use Rattle.jit_session.proofs.Ended.{all_done, can_run, parts_same}
+use Rattle.jit_session.specs.declared.asking.Asking.{Asking}
+use Rattle.jit_session.specs.declared.parts.Part.{Part}
+use Rattle.jit_session.specs.Parts.{CanGo, Went, harts_of, asking_in, or_else}
+use Rattle.jit_session.proofs.Lists.{all_can_go, all_went, harts_long, harts_ran, asker_left}
 use Rattle.jit_session.specs.Opened.{AreOpened}
 use Rattle.jit_session.proofs.Settles.{written}
 

@@ -6,13 +6,13 @@ use Rattle.code_epochs.specs.Sound.{At}
 use Rattle.code_epochs.specs.declared.parts.Book.{Book}
 use Rattle.code_epochs.proofs.Lists.{at_snoc, at_below, at_last, at_longer}
 use Rattle.ir_core.specs.Program.{Program}
-use Rattle.version_shelf.specs.declared.shelf.Shelf.{Shelf}
+use Rattle.code_epochs.specs.declared.shelf.Shelf.{Shelf}
 use Rattle.redirect_cells.specs.Keeping.{Collected, IsSameShelf}
-use Rattle.jit_calls.specs.declared.settled.JobRefusal.{JobRefusal}
-use Rattle.jit_calls.specs.declared.settled.JobRefusal.TheVariants.{Crowded}
-use Rattle.jit_calls.specs.declared.settled.RefusedJob.{RefusedJob}
-use Rattle.jit_workers.specs.Shelves.{KeepsAll, KeepsOthers}
-use Rattle.jit_workers.proofs.Shelves.{collected_keeps, same_keeps}
+use Rattle.session_types.specs.declared.settled.JobRefusal.{JobRefusal}
+use Rattle.session_types.specs.declared.settled.JobRefusal.TheVariants.{Crowded}
+use Rattle.session_types.specs.declared.settled.RefusedJob.{RefusedJob}
+use Rattle.jit_session.specs.Shelves.{KeepsAll, KeepsOthers}
+use Rattle.jit_session.proofs.Shelves.{collected_keeps, same_keeps}
 use Rattle.jit_session.specs.Levels.{HasLevel, IsJobCause, IsRefusedJob, IsRaised, IsAmong, IsLevelled, AreRefused, MayAdd, IsSettledSymbol}
 
 -- a job that was refused as crowded may be

@@ -12,14 +12,14 @@ use Rattle.rv_play.specs.declared.version.MakeRefusal.{MakeRefusal}
 use Rattle.rv_play.specs.declared.version.MakeRefusal.TheVariants as make
 use Rattle.rv_play.specs.declared.version.Version.{Version}
 use Rattle.reopt_policy.specs.Marks.{AreMarks, level_for}
-use Rattle.version_shelf.specs.declared.shelf.Shelf.{Shelf}
+use Rattle.code_epochs.specs.declared.shelf.Shelf.{Shelf}
 use Rattle.redirect_cells.specs.declared.table.CodeTable.{CodeTable}
 use Rattle.redirect_cells.specs.Kept.{meaning_of}
 use Rattle.redirect_cells.specs.Keeping.{IsCause, IsCurrent, Published}
-use Rattle.jit_calls.specs.declared.settled.JobRefusal.{JobRefusal}
-use Rattle.jit_calls.specs.declared.settled.RefusedJob.{RefusedJob}
-use Rattle.jit_workers.specs.Shelves.{KeepsOthers}
-use Rattle.jit_workers.proofs.Shelves.{published_has, published_keeps}
+use Rattle.session_types.specs.declared.settled.JobRefusal.{JobRefusal}
+use Rattle.session_types.specs.declared.settled.RefusedJob.{RefusedJob}
+use Rattle.jit_session.specs.Shelves.{KeepsOthers}
+use Rattle.jit_session.proofs.Shelves.{published_has, published_keeps}
 use Rattle.jit_session.specs.Levels.{IsForRoom, IsJobCause, IsRaised, IsRefusedJob, IsSameCause, IsSameMake}
 
 -- a level is at most 3

@@ -2,13 +2,13 @@
 use Rattle.std.proofs.Common.{◌≡◌, ◌⊎◌, ℕ, ◌<◌, List, length, sym, ap, subst, ◌∙◌, inl, inr, ⊎_elim, arith}
 use Rattle.code_epochs.specs.declared.state.VersionState.{VersionState}
 use Rattle.entry_counts.specs.Tally.{times}
-use Rattle.version_shelf.specs.declared.shelf.Shelf.{Shelf}
-use Rattle.jit_calls.specs.declared.settled.RefusedJob.{RefusedJob}
-use Rattle.jit_calls.specs.declared.settled.SymbolRow.{SymbolRow}
-use Rattle.jit_harts.specs.Runs.{Each}
-use Rattle.jit_harts.specs.Settling.{column}
-use Rattle.jit_workers.specs.Shelves.{KeepsAll}
-use Rattle.jit_workers.proofs.Publishing.{current_one}
+use Rattle.code_epochs.specs.declared.shelf.Shelf.{Shelf}
+use Rattle.session_types.specs.declared.settled.RefusedJob.{RefusedJob}
+use Rattle.session_types.specs.declared.settled.SymbolRow.{SymbolRow}
+use Rattle.jit_session.specs.Runs.{Each}
+use Rattle.jit_session.specs.Settling.{column}
+use Rattle.jit_session.specs.Shelves.{KeepsAll}
+use Rattle.jit_session.proofs.WorkerPublishing.{current_one}
 use Rattle.reopt_policy.specs.Marks.{level_for}
 use Rattle.jit_session.specs.Levels.{HasLevel, IsAmong, IsLevelled}
 use Rattle.jit_session.specs.Rows.{IsRowOf}

@@ -10,11 +10,11 @@ use Rattle.code_epochs.specs.Sound.{At}
 use Rattle.code_epochs.specs.declared.parts.Book.{Book}
 use Rattle.redirect_cells.specs.Keeping.{AllGone}
 use Rattle.redirect_cells.specs.Gathered.{IsIdleSeat, AreAllHarts}
-use Rattle.jit_harts.specs.declared.runner.Runner.{Runner}
-use Rattle.jit_harts.specs.Opened.{IsDone}
-use Rattle.jit_harts.specs.Runs.{Each}
-use Rattle.jit_harts.specs.Settling.{seats_of}
-use Rattle.jit_harts.proofs.Gathering.{seats_long}
+use Rattle.jit_session.specs.declared.runner.Runner.{Runner}
+use Rattle.jit_session.specs.OpenedHarts.{IsDone}
+use Rattle.jit_session.specs.Runs.{Each}
+use Rattle.jit_session.specs.Settling.{seats_of}
+use Rattle.jit_session.proofs.Gathering.{seats_long}
 
 module _ {A : Type 0} where
   take_whole : (xs : List A) → take (length xs) xs ≡ xs

@@ -11,11 +11,11 @@ use Rattle.code_epochs.specs.declared.state.VersionState.{VersionState}
 use Rattle.code_epochs.specs.Sound.{At}
 use Rattle.code_epochs.specs.Steps.{with_status}
 use Rattle.code_epochs.proofs.Lists.{at_below, at_same, at_some}
-use Rattle.version_shelf.specs.declared.shelf.Shelf.{Shelf}
-use Rattle.version_shelf.specs.Shelf.{is_linked}
+use Rattle.code_epochs.specs.declared.shelf.Shelf.{Shelf}
+use Rattle.code_epochs.specs.Shelf.{is_linked}
 use Rattle.redirect_cells.specs.Keeping.{Collected, IsSettled, LinkedAreCurrent, NonePending, NoneUnlinked, is_pending, kept_by, held_words}
-use Rattle.jit_calls.specs.declared.settled.SymbolRow.{SymbolRow}
-use Rattle.jit_harts.specs.Runs.{Each}
+use Rattle.session_types.specs.declared.settled.SymbolRow.{SymbolRow}
+use Rattle.jit_session.specs.Runs.{Each}
 use Rattle.jit_session.specs.Sessions.{IsLinkedRow, words_of_rows}
 
 -- ---- sums over numbers

@@ -10,12 +10,12 @@ use Rattle.rv_play.specs.declared.version.MakeRefusal.TheVariants as make
 use Rattle.rv_play.specs.declared.version.Version.{Version}
 use Rattle.rv_play.specs.Versions.{IsVersion}
 use Rattle.entry_counts.specs.declared.seat.CountSeat.{CountSeat}
-use Rattle.version_shelf.specs.declared.shelf.Shelf.{Shelf}
+use Rattle.code_epochs.specs.declared.shelf.Shelf.{Shelf}
 use Rattle.redirect_cells.specs.Keeping.{IsCause, IsCurrent}
-use Rattle.jit_calls.specs.declared.settled.JobRefusal.{JobRefusal}
-use Rattle.jit_calls.specs.declared.settled.JobRefusal.TheVariants.{Crowded, NoRoom, NoMemory}
-use Rattle.jit_calls.specs.declared.settled.RefusedJob.{RefusedJob}
-use Rattle.jit_workers.specs.Shelves.{KeepsOthers}
+use Rattle.session_types.specs.declared.settled.JobRefusal.{JobRefusal}
+use Rattle.session_types.specs.declared.settled.JobRefusal.TheVariants.{Crowded, NoRoom, NoMemory}
+use Rattle.session_types.specs.declared.settled.RefusedJob.{RefusedJob}
+use Rattle.jit_session.specs.Shelves.{KeepsOthers}
 
 -- the linked version of the symbol has this level
 abbrev pub HasLevel : Shelf → ℕ → ℕ → Type 0

@@ -4,11 +4,11 @@ use Rattle.ir_core.specs.Program.{Program}
 use Rattle.entry_counts.specs.declared.counts.Counts.{Counts}
 use Rattle.entry_counts.specs.Seats.{IsNewSeat}
 use Rattle.redirect_cells.specs.declared.table.CodeTable.{CodeTable}
-use Rattle.jit_harts.specs.Opened.{IsNew, parts_of}
-use Rattle.jit_harts.specs.Runs.{Each}
-use Rattle.jit_workers.specs.declared.asking.Asking.{Asking}
-use Rattle.jit_workers.specs.declared.parts.Part.{Part}
-use Rattle.jit_workers.specs.Parts.{harts_of, asking_in, or_else}
+use Rattle.jit_session.specs.OpenedHarts.{IsNew, parts_of}
+use Rattle.jit_session.specs.Runs.{Each}
+use Rattle.jit_session.specs.declared.asking.Asking.{Asking}
+use Rattle.jit_session.specs.declared.parts.Part.{Part}
+use Rattle.jit_session.specs.Parts.{harts_of, asking_in, or_else}
 
 -- New harts of the table, one for each of its seats, and workers, of which the first asks; or `idle` does. What asks has the policy and a
 -- new seat of the counts, and it and the harts have all parts of the counts.

@@ -9,13 +9,13 @@ use Rattle.code_epochs.specs.Sound.{At}
 use Rattle.code_epochs.specs.declared.refusals.OpenRefusal.{OpenRefusal}
 use Rattle.code_epochs.specs.declared.refusals.OpenRefusal.TheVariants.{NoRoom, NoMemory}
 use Rattle.code_epochs.specs.declared.state.VersionState.{VersionState}
-use Rattle.version_shelf.specs.declared.shelf.Shelf.{Shelf}
+use Rattle.code_epochs.specs.declared.shelf.Shelf.{Shelf}
 use Rattle.redirect_cells.specs.Keeping.{IsCurrent, NonePending, NoneUnlinked, held_words}
 use Rattle.redirect_cells.specs.Opened.{words_of}
-use Rattle.jit_calls.specs.declared.settled.Settled.{Settled}
-use Rattle.jit_calls.specs.declared.settled.SymbolRow.{SymbolRow}
-use Rattle.jit_harts.specs.Runs.{AllRight, Each}
-use Rattle.jit_harts.specs.Settling.{IsEnteredRow, column}
+use Rattle.session_types.specs.declared.settled.Settled.{Settled}
+use Rattle.session_types.specs.declared.settled.SymbolRow.{SymbolRow}
+use Rattle.jit_session.specs.Runs.{AllRight, Each}
+use Rattle.jit_session.specs.Settling.{IsEnteredRow, column}
 use Rattle.reopt_policy.specs.Marks.{level_for}
 use Rattle.jit_session.specs.Levels.{IsAmong, AreRefused}
 

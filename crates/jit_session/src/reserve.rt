@@ -3,9 +3,9 @@ ghost use Rattle.std.specs.Prelude.{◌≡◌, ◌≤◌, [], IfOk, vec_capacity
 ghost use Rattle.jit_session.specs.Reserves.{IsReserve};
 
 use ir_meaning::calls::Ended;
-use jit_calls::{RefusedJob, SymbolRow};
 use redirect_cells::HartSeat;
 use rj_num::NoMemory;
+use session_types::{RefusedJob, SymbolRow};
 use sqlite_items::Items;
 use std::alloc::Global;
 

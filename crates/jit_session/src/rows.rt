@@ -1,11 +1,11 @@
 //! The rows of symbols once all calls have ended.
 ghost use Rattle.std.specs.Prelude.{◌≡◌, ◌≤◌, [], length, vec_capacity};
-ghost use Rattle.jit_harts.specs.Runs.{Each};
+ghost use Rattle.jit_session.specs.Runs.{Each};
 ghost use Rattle.jit_session.specs.Rows.{IsRowOf};
 
 use entry_counts::CountSeat;
-use jit_calls::SymbolRow;
 use redirect_cells::Keeper;
+use session_types::SymbolRow;
 
 /// A row for each of so many symbols: the entries that a seat with all parts has taken in, and the level and the words of the linked version.
 pub fn fill_rows(

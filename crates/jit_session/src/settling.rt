@@ -10,10 +10,10 @@ ghost use Rattle.jit_session.specs.Levels.{IsForRoom, IsSameCause, IsSameMake, I
 use code_epochs::PublishRefusal;
 use entry_counts::CountSeat;
 use ir_verify::checked::Checked;
-use jit_calls::{JobRefusal, RefusedJob};
 use redirect_cells::Keeper;
 use reopt_policy::ReoptPolicy;
-use rv_play::version::{MakeRefusal, Maker, Version};
+use rv_play::version::{MakeRefusal, Version};
+use session_types::{JobRefusal, Maker, RefusedJob};
 use std::alloc::Global;
 
 // The level that a policy gives a symbol with so many entries.

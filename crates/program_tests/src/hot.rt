@@ -1,7 +1,7 @@
 //! Functions that are hot: what a session of any number of harts and workers settles at.
 use crate::program::{Given, NAMES, Wanted, comes_to_by};
 use crate::texts::TWICE;
-use jit_bench::NoGate;
+use jit_session::NoGate;
 use std::alloc::{AllocError, Global};
 use std::process::Abort;
 use std::sync::Wait;

@@ -1,6 +1,6 @@
 //! The program over files and sinks in memory.
-use jit_bench::{Gate, NoGate};
 use jit_main::{reopt, serial};
+use jit_session::{Gate, NoGate};
 use reopt_policy::{Marks, Quiet, ReoptPolicy};
 use rj_io::{MemFiles, MemSink};
 use std::alloc::{AllocError, Global};

@@ -1,6 +1,6 @@
 //! A function is replaced between two entries of one call, while another call runs.
 use crate::program::{Given, NAMES, Wanted, comes_to_by};
-use jit_bench::{Gate, Point};
+use jit_session::{Gate, Point};
 use std::sync::atomic::{AtomicBool, AtomicU64, Ordering};
 use std::test::Fail;
 use std::thread;

@@ -1,12 +1,12 @@
 // The words of small functions, and those of a loop, of narrow values and of a switch that are assembled by hand.
+use fast_isel::compile::quick_flow;
+use fast_isel::taken::takes;
+use fast_isel_emit::places::Places;
 use ir_core::code::{BinOp, Block, BuiltIn, CastOp, Flags, Inst, Op, Operand, Pred};
 use ir_core::program::{Function, Module};
 use ir_core::types::{MemTy, Ty};
 use ir_verify::checked::Checked;
 use ir_verify::verdict::verify;
-use quick_blocks::compile::quick_flow;
-use quick_blocks::taken::takes;
-use quick_pieces::places::Places;
 use sqlite_items::Items;
 use std::alloc::{AllocError, Global};
 

@@ -8,8 +8,8 @@ use Rattle.code_epochs.specs.declared.state.VersionState.{VersionState}
 use Rattle.code_epochs.specs.Sound.{At, Has, HasPassed, Apart, start_of}
 use Rattle.code_epochs.specs.Steps.{unlink, unlinked, with_status, linked_of, Marks, marked_by}
 use Rattle.code_epochs.proofs.Lists.{at_index, at_snoc, at_same, set_else, set_here, at_below, at_longer, at_last, at_set}
-use Rattle.version_shelf.specs.Shelf.{NoneShared, is_linked}
-use Rattle.version_shelf.specs.declared.shelf.Shelf.{Shelf}
+use Rattle.code_epochs.specs.Shelf.{NoneShared, is_linked}
+use Rattle.code_epochs.specs.declared.shelf.Shelf.{Shelf}
 use Rattle.code_epochs.specs.declared.state.Status.TheVariants.{Linked, Unlinked, Pending, GivenUp}
 use Rattle.rv_play.specs.declared.version.Version.{Version}
 use Rattle.redirect_cells.specs.Kept.{draft_at}

@@ -11,8 +11,8 @@ use Rattle.code_epochs.specs.Steps.{unlinked, linked_of}
 use Rattle.code_epochs.proofs.Lists.{at_below, at_same, at_snoc, set_here, set_else}
 use Rattle.code_space.specs.Space.{count_free}
 use Rattle.rv_play.specs.declared.version.Version.{Version}
-use Rattle.version_shelf.specs.declared.shelf.Shelf.{Shelf}
-use Rattle.version_shelf.specs.Shelf.{NoneShared, IsApart}
+use Rattle.code_epochs.specs.declared.shelf.Shelf.{Shelf}
+use Rattle.code_epochs.specs.Shelf.{NoneShared, IsApart}
 use Rattle.redirect_cells.specs.Kept.{draft_at, AllBelow}
 use Rattle.redirect_cells.specs.Keeping.{AllCurrent, NoneUnlinked, held_words}
 use Rattle.redirect_cells.specs.Opened.{words_of, laid, AreLaid}

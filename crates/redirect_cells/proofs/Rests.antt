@@ -13,8 +13,8 @@ use Rattle.code_epochs.proofs.Lists.{at_same, at_below, at_some, at_set}
 use Rattle.code_space.specs.declared.FreeRange.{FreeRange}
 use Rattle.code_space.specs.Space.{count_free}
 use Rattle.rv_play.specs.declared.version.Version.{Version}
-use Rattle.version_shelf.specs.declared.shelf.Shelf.{Shelf}
-use Rattle.version_shelf.specs.Shelf.{is_linked}
+use Rattle.code_epochs.specs.declared.shelf.Shelf.{Shelf}
+use Rattle.code_epochs.specs.Shelf.{is_linked}
 use Rattle.redirect_cells.specs.Kept.{draft_at}
 use Rattle.redirect_cells.specs.Keeping.{Published, IsUsed, IsSameShelf, AllCurrent, NoneUnlinked, kept_by, held_words}
 

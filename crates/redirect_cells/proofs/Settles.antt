@@ -12,7 +12,7 @@ use Rattle.code_epochs.specs.Sound.{At, Has, HasPassed}
 use Rattle.code_epochs.specs.Steps.{with_status}
 use Rattle.code_epochs.proofs.Lists.{at_same, at_below, at_some, set_else, set_here}
 use Rattle.code_space.specs.Space.{Space, count_free}
-use Rattle.version_shelf.specs.declared.shelf.Shelf.{Shelf}
+use Rattle.code_epochs.specs.declared.shelf.Shelf.{Shelf}
 use Rattle.redirect_cells.specs.Keeping.{LookedAt, IsSettled, Settled, Collected, HasGonePast, IsBehind, IsLonger, AreTrue, AllGone, NonePending, NoneUnlinked, is_pending, kept_by, held_words, one_if_given, count_given}
 use Rattle.redirect_cells.proofs.Keeps as K
 use Rattle.atomic_table.proofs.Lists.{set_again}

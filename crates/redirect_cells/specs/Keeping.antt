@@ -11,8 +11,8 @@ use Rattle.code_epochs.specs.declared.parts.Book.{Book}
 use Rattle.code_space.specs.Space.{count_free, HasRoom}
 use Rattle.code_epochs.specs.declared.refusals.PublishRefusal.{PublishRefusal}
 use Rattle.code_epochs.specs.declared.refusals.PublishRefusal.TheVariants.{NoRoom, ManyVersions, NoMemory}
-use Rattle.version_shelf.specs.declared.shelf.Shelf.{Shelf}
-use Rattle.version_shelf.specs.Shelf.{is_linked}
+use Rattle.code_epochs.specs.declared.shelf.Shelf.{Shelf}
+use Rattle.code_epochs.specs.Shelf.{is_linked}
 use Rattle.redirect_cells.specs.Kept.{draft_at}
 
 -- the version was published with the number n: it is the linked one of its symbol, the one that was is pending, and all others stay

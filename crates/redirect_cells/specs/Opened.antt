@@ -7,7 +7,7 @@ use Rattle.code_epochs.specs.Sound.{At}
 use Rattle.code_epochs.specs.Steps.{linked_of, new_part}
 use Rattle.rv_play.specs.Good.{Good}
 use Rattle.rv_play.specs.declared.version.Version.{Version}
-use Rattle.version_shelf.specs.declared.shelf.Shelf.{Shelf}
+use Rattle.code_epochs.specs.declared.shelf.Shelf.{Shelf}
 use Rattle.redirect_cells.specs.declared.view.Plan.{Plan}
 use Rattle.redirect_cells.specs.declared.view.Role.TheVariants.{Hart}
 use Rattle.redirect_cells.specs.declared.table.CodeTable.{CodeTable}

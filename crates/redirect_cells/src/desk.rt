@@ -6,17 +6,16 @@ ghost use Rattle.rv_play.specs.Good.{Good};
 ghost use Rattle.code_epochs.specs.Sound.{At, HasPassed, start_of};
 ghost use Rattle.code_epochs.specs.Steps.{unlinked, linked_of, with_status, restatus};
 ghost use Rattle.code_space.specs.Space.{HasRoom, IsFree, count_free};
-ghost use Rattle.version_shelf.specs.Shelf.{NoneFree, IsApart, count_staying};
+ghost use Rattle.code_epochs.specs.Shelf.{NoneFree, IsApart, count_staying};
 ghost use Rattle.redirect_cells.specs.Kept.{meaning_of, book_of, part_of, draft_at, joined_view, split_view, new_hart, word_in, JoinedBacked};
 ghost use Rattle.redirect_cells.specs.Keeping.{LinkedAreCurrent, AreSameHarts};
 
 use crate::hart_seat::HartSeat;
 use crate::keeper_seat::KeeperSeat;
-use code_epochs::{PublishRefusal, Status, VersionState, marks};
+use code_epochs::{PublishRefusal, Shelf, Status, VersionState, marks};
 use rj_num::NoMemory;
 use rv_play::version::Version;
 use std::alloc::Global;
-use version_shelf::Shelf;
 
 const MOST_VERSIONS: usize = 1_048_576;
 

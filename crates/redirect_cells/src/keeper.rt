@@ -4,7 +4,7 @@ ghost use Rattle.code_epochs.specs.declared.state.VersionState.{VersionState};
 ghost use Rattle.code_epochs.specs.declared.parts.Book.{Book};
 ghost use Rattle.rv_play.specs.Good.{Good};
 ghost use Rattle.code_space.specs.Space.{count_free};
-ghost use Rattle.version_shelf.specs.declared.shelf.Shelf.{Shelf};
+ghost use Rattle.code_epochs.specs.declared.shelf.Shelf.{Shelf};
 ghost use Rattle.redirect_cells.specs.Kept.{meaning_of, book_of, JoinedBacked};
 ghost use Rattle.redirect_cells.specs.Keeping.{AllCurrent, NoneUnlinked, AreSameHarts, held_words};
 

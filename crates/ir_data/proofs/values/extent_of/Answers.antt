@@ -1,6 +1,6 @@
 use Rattle.std.proofs.Common.{arith, ap, ◌∙◌, ◌≡◌, ◌≤◌, ◌^◌}
 use Rattle.ir_core.specs.Layout.{size}
-use Rattle.ir_limits.specs.Limits.{measured}
+use Rattle.ir_flow.specs.Limits.{measured}
 use Rattle.ir_data.proofs.Sizes.{is_measured, size_within}
 use Rattle.ir_data.proofs.values.extent_of.Goals as goal
 

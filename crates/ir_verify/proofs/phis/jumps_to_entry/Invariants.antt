@@ -1,7 +1,7 @@
 use Rattle.std.proofs.Common.{◌≡◌, ◌+◌, ◌++◌, ◌≤◌, ◌<◌, ◌⊎◌, ℕ, length, drop, take, map, ◌||◌, ◌&&◌, not, Bool, true, false, if◌then◌else◌}
 use Rattle.std.specs.Prelude.{count_by, ◌==◌}
 use Rattle.ir_flow.specs.Code.{case_blocks, pair_blocks, edges}
-use Rattle.ir_limits.specs.First.{first_refused}
+use Rattle.ir_flow.specs.First.{first_refused}
 use Rattle.ir_core.specs.declared.code.Block.{Block}
 use Rattle.ir_verify.specs.Phis.{times, matches_edges, all_phis, first_wrong_phis}
 use Rattle.ir_verify.proofs.phis.jumps_to_entry.Given as goal

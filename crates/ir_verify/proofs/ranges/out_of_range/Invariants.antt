@@ -1,6 +1,6 @@
 use Rattle.std.proofs.Common.{◌≡◌, ◌+◌, ◌++◌, length, drop, map, replicate}
 use Rattle.ir_core.specs.Units.{instructions}
-use Rattle.ir_limits.specs.First.{first_refused}
+use Rattle.ir_flow.specs.First.{first_refused}
 use Rattle.ir_verify.specs.Ranges.{is_in_range}
 use Rattle.ir_verify.proofs.ranges.out_of_range.Given as goal
 

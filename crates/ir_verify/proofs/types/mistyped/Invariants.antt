@@ -1,5 +1,5 @@
 use Rattle.std.proofs.Common.{◌≡◌, ◌+◌, ◌++◌, ◌≤◌, ◌<◌, ◌⊎◌, ℕ, length, drop, take, map, ◌||◌, ◌&&◌, Bool, true, false, if◌then◌else◌}
-use Rattle.ir_limits.specs.First.{first_refused}
+use Rattle.ir_flow.specs.First.{first_refused}
 use Rattle.ir_verify.specs.Types.{is_typed}
 use Rattle.ir_core.specs.Units.{instructions}
 use Rattle.ir_verify.proofs.types.mistyped.Given as goal

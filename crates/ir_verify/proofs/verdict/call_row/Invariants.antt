@@ -1,5 +1,5 @@
 use Rattle.std.proofs.Common.{◌≡◌, drop}
-use Rattle.ir_limits.specs.First.{first_in}
+use Rattle.ir_flow.specs.First.{first_in}
 use Rattle.ir_verify.specs.Calls.{wrong_call}
 use Rattle.ir_verify.specs.Verdict.{of_call}
 use Rattle.ir_verify.proofs.verdict.call_row.Given as goal

@@ -1,5 +1,5 @@
 use Rattle.std.proofs.Common.{◌≡◌, ◌∙◌, sym, None}
-use Rattle.ir_limits.specs.Limits.{limit_passed}
+use Rattle.ir_flow.specs.Limits.{limit_passed}
 use Rattle.ir_verify.specs.Small.{IsSmall, HasFewBlocks}
 use Rattle.ir_verify.specs.Verdict.{shape_refusal}
 use Rattle.ir_verify.proofs.Lists.{all_of}

@@ -1,5 +1,5 @@
 use Rattle.std.proofs.Common.{◌≡◌, drop}
-use Rattle.ir_limits.specs.First.{first_in}
+use Rattle.ir_flow.specs.First.{first_in}
 use Rattle.ir_verify.specs.Types.{mistyped}
 use Rattle.ir_verify.specs.Verdict.{of_number}
 use Rattle.ir_verify.specs.declared.refusal.VerifyRefusal.TheVariants.{BadType}

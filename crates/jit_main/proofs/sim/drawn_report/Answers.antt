@@ -1,10 +1,10 @@
 use Rattle.std.proofs.Common.{ℕ, ◌<◌, ◌≤◌, slice_index, subst}
-use Rattle.event_runs.specs.Ran.{Ran}
+use Rattle.jit_core.specs.Ran.{Ran}
 use Rattle.hart.specs.declared.hart.Image.{Image}
-use Rattle.event_runs.specs.declared.run.Plan.{Plan}
+use Rattle.jit_core.specs.declared.run.Plan.{Plan}
 use Rattle.jit_main.specs.Images.{hart_image}
 use Rattle.jit_main.specs.Sims.{plan_of}
-use Rattle.quick_module.specs.Modules.{words_needed}
+use Rattle.fast_isel.specs.Modules.{words_needed}
 use Rattle.jit_main.proofs.Readying.{is_image}
 use Rattle.jit_main.proofs.Firsts.{are_first_of_core}
 use Rattle.jit_main.proofs.Drawing.{are_calls, drawn_right}

@@ -1,5 +1,5 @@
 use Rattle.std.proofs.Common.{◌≡◌, refl, subst, IfOk}
-use Rattle.refusal_texts.specs.Texts.{unverified_text}
+use Rattle.jit_text.specs.RefusalTexts.{unverified_text}
 use Rattle.jit_main.specs.declared.stop.Stop.TheVariants.{Usage, CannotRead, Unread, Unverified, TooBig, Uncalled, NoRoom}
 use Rattle.jit_main.proofs.Fronts.{with_text, made_why}
 use Rattle.jit_main.proofs.tell.report.Goals as goal

@@ -1,6 +1,6 @@
 use Rattle.std.proofs.Common.{◌≡◌, length}
 use Rattle.std.specs.Prelude.{vec_capacity}
-use Rattle.jit_harts.specs.Runs.{Each}
+use Rattle.jit_session.specs.Runs.{Each}
 use Rattle.jit_session.specs.Rows.{IsRowOf}
 use Rattle.jit_session.proofs.rows.fill_rows.Given as goal
 

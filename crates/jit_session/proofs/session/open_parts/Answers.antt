@@ -1,5 +1,5 @@
 use Rattle.std.proofs.Common.{◌≡◌, ℕ, ◌+◌, length, ap, ◌∙◌, sym, subst}
-use Rattle.jit_session.proofs.Opening.{opened}
+use Rattle.jit_session.proofs.SessionOpening.{opened}
 use Rattle.jit_session.proofs.session.open_parts.Goals as goal
 
 pub returns : goal.returns

@@ -1,6 +1,6 @@
 use Rattle.std.proofs.Common.{◌≡◌, ℕ, List, length, sym, ap, subst, ◌∙◌}
 use Rattle.std.proofs.lemmas.List.{same_from_push}
-use Rattle.jit_workers.proofs.Few.{few_first}
+use Rattle.jit_session.proofs.Few.{few_first}
 use Rattle.jit_session.specs.Sessions.{IsSettled}
 use Rattle.jit_session.proofs.Firsts.{quick, functions_same}
 use Rattle.jit_session.proofs.session.run.Goals as goal

@@ -3,15 +3,15 @@ use Rattle.redirect_cells.specs.declared.table.CodeTable.{CodeTable}
 use Rattle.redirect_cells.specs.declared.hart_seat.HartSeat.{HartSeat}
 use Rattle.redirect_cells.specs.Gathered.{IsIdleSeat, AreAllHarts}
 use Rattle.redirect_cells.specs.Kept.{book_of}
-use Rattle.jit_calls.specs.declared.settled.RefusedJob.{RefusedJob}
+use Rattle.session_types.specs.declared.settled.RefusedJob.{RefusedJob}
 use Rattle.ir_meaning.specs.declared.calls.Ended.{Ended}
-use Rattle.jit_harts.specs.declared.runner.Runner.{Runner}
-use Rattle.jit_harts.specs.Runs.{AllRight, Each, HasAnswered}
+use Rattle.jit_session.specs.declared.runner.Runner.{Runner}
+use Rattle.jit_session.specs.Runs.{AllRight, Each, HasAnswered}
 use Rattle.entry_counts.specs.declared.counts.Counts.{Counts}
-use Rattle.jit_harts.specs.Entries.{calls_of, AreEntries}
-use Rattle.jit_harts.specs.Settling.{AreRows, IsEnteredRow, seats_of}
-use Rattle.jit_harts.proofs.Parting.{entered_rows}
-use Rattle.jit_workers.proofs.Shelves.{collected_keeps}
+use Rattle.jit_session.specs.Entries.{calls_of, AreEntries}
+use Rattle.jit_session.specs.Settling.{AreRows, IsEnteredRow, seats_of}
+use Rattle.jit_session.proofs.Parting.{entered_rows}
+use Rattle.jit_session.proofs.Shelves.{collected_keeps}
 use Rattle.jit_session.specs.Levels.{AreRefused}
 use Rattle.jit_session.specs.Rows.{IsRowOf}
 use Rattle.jit_session.proofs.Settled.{levels, sums, linked}

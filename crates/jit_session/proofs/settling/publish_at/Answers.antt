@@ -1,6 +1,6 @@
 use Rattle.std.proofs.Common.{◌≡◌, ◌<◌, length, refl, sym, subst, Option, arith, false}
 use Rattle.std.specs.Prelude.{MatchOption}
-use Rattle.jit_calls.specs.declared.settled.RefusedJob.{RefusedJob}
+use Rattle.session_types.specs.declared.settled.RefusedJob.{RefusedJob}
 use Rattle.jit_session.specs.Levels.{IsRaised, IsRefusedJob}
 use Rattle.jit_session.proofs.Publishing.{good_of, raised, refused_publish}
 use Rattle.jit_session.proofs.settling.publish_at.Goals.{in-Ok, in-Err}

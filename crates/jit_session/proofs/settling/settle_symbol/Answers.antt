@@ -2,7 +2,7 @@ use Rattle.std.proofs.Common.{◌≡◌, ℕ, [], ◌∷◌, ◌++◌, sym, subs
 use Rattle.redirect_cells.specs.Kept.{book_of}
 use Rattle.entry_counts.specs.Tally.{times}
 use Rattle.reopt_policy.specs.Marks.{level_for}
-use Rattle.jit_workers.proofs.Shelves.{collected_keeps}
+use Rattle.jit_session.proofs.Shelves.{collected_keeps}
 use Rattle.jit_session.specs.Levels.{IsSettledSymbol}
 use Rattle.jit_session.proofs.Counting.{whole_found}
 use Rattle.jit_session.proofs.Levels.{refused_settles}

@@ -7,7 +7,7 @@ use Rattle.code_space.specs.declared.FreeRange.{FreeRange}
 use Rattle.code_space.specs.Space.{Space, IsFree}
 use Rattle.rv_play.specs.declared.version.Version.{Version}
 use Rattle.rv_play.specs.Good.{Good}
-use Rattle.version_shelf.specs.Shelf.{IsApart}
+use Rattle.code_epochs.specs.Shelf.{IsApart}
 use Rattle.redirect_cells.specs.Kept.{meaning_of, AllBelow, draft_at}
 use Rattle.redirect_cells.specs.Opened.{words_of, laid}
 use Rattle.redirect_cells.proofs.Lays as L

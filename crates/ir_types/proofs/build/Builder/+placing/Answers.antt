@@ -1,6 +1,6 @@
 use Rattle.std.proofs.lemmas.List.{get_or_default}
 use Rattle.std.proofs.lemmas.Result.{err_from_is_err_and}
-use Rattle.ir_names.proofs.Walks.{goes, refused, ended}
+use Rattle.ir_types.proofs.Walks.{goes, refused, ended}
 use Rattle.ir_types.specs.Build.{place_with, place_named}
 use Rattle.ir_types.proofs.build.Builder.+placing.Goals as goal
 

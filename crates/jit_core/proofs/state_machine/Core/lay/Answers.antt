@@ -1,5 +1,5 @@
 use Rattle.std.proofs.Common.{◌+◌, ◌≤◌, sym, subst, ◌∙◌}
-use Rattle.version_shelf.specs.Shelf.{count_staying}
+use Rattle.code_epochs.specs.Shelf.{count_staying}
 use Rattle.jit_core.proofs.Standing.{all_other_ready}
 use Rattle.jit_core.proofs.Storing.{store_does}
 use Rattle.jit_core.proofs.state_machine.Core.lay.Goals as goal

@@ -1,7 +1,7 @@
 use Rattle.std.proofs.Common.{rules, None, ◌≡◌, ◌+◌, ◌<◌, ◌≤◌, length, vec_len, vec_capacity, refl, ap, arith}
 use Rattle.code_epochs.specs.declared.refusals.PublishRefusal.TheVariants as refusal
-use Rattle.version_shelf.specs.Shelf.{count_staying}
-use Rattle.version_shelf.proofs.Shelves.{count_most}
+use Rattle.code_epochs.specs.Shelf.{count_staying}
+use Rattle.code_epochs.proofs.Shelves.{count_most}
 use Rattle.jit_core.specs.declared.event.Event.TheVariants as event
 use Rattle.jit_core.specs.declared.event.Stepped.TheVariants as stepped
 use Rattle.jit_core.proofs.Standing.{stands_still}

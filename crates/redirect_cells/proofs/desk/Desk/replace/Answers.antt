@@ -8,7 +8,7 @@ use Rattle.code_epochs.specs.Sound.{At, Apart, IsBase, Stays, HasPassed, start_o
 use Rattle.code_epochs.specs.Steps.{unlinked, linked_of, with_status}
 use Rattle.code_epochs.proofs.Lists.{at_same, at_index, at_below, set_else, set_here}
 use Rattle.code_space.specs.Space.{HasRoom, IsFree, count_free}
-use Rattle.version_shelf.specs.Shelf.{NoneFree, NoneShared, IsApart, count_staying, is_linked}
+use Rattle.code_epochs.specs.Shelf.{NoneFree, NoneShared, IsApart, count_staying, is_linked}
 use Rattle.redirect_cells.specs.declared.view.View.{View}
 use Rattle.redirect_cells.specs.declared.view.Plan.{Plan}
 use Rattle.redirect_cells.specs.Kept.{book_of, draft_at, MayBegin}

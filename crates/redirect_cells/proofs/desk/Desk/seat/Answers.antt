@@ -6,8 +6,8 @@ use Rattle.code_epochs.specs.declared.parts.Book.{Book}
 use Rattle.code_epochs.specs.Sound.{At}
 use Rattle.code_epochs.specs.Steps.{AllLinked}
 use Rattle.code_epochs.proofs.Lists.{at_some}
-use Rattle.version_shelf.specs.declared.shelf.Shelf.{Shelf}
-use Rattle.version_shelf.specs.Shelf.{is_linked}
+use Rattle.code_epochs.specs.declared.shelf.Shelf.{Shelf}
+use Rattle.code_epochs.specs.Shelf.{is_linked}
 use Rattle.redirect_cells.specs.declared.view.View.{View}
 use Rattle.redirect_cells.specs.declared.view.Role.{Role}
 use Rattle.redirect_cells.specs.declared.view.Role.TheVariants.{Hart, Keeper, Spent}

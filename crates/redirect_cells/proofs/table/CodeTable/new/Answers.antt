@@ -7,8 +7,8 @@ use native.Mathlib.Decide.{dec_le}
 use Rattle.std.proofs.lemmas.Bool.{lt-ltb}
 use Rattle.ir_core.specs.declared.program.What.{What}
 use Rattle.ir_core.specs.declared.program.What.TheVariants.{Functions}
-use Rattle.ir_limits.specs.First.{or_then}
-use Rattle.ir_limits.specs.Limits.{Passed, above, capped, limit_passed}
+use Rattle.ir_flow.specs.First.{or_then}
+use Rattle.ir_flow.specs.Limits.{Passed, above, capped, limit_passed}
 use Rattle.ir_verify.specs.declared.refusal.VerifyRefusal.{VerifyRefusal}
 use Rattle.ir_verify.specs.Verdict.{Passes, of_passed}
 use Rattle.redirect_cells.proofs.Opens.{opens}

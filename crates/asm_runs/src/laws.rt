@@ -1,9 +1,0 @@
-// Laws of assembled words.
-
-ghost use Rattle.asm_runs.specs.Laws.{JumpsArrive};
-
-/// Where assembled words stand in the code region, the play of a version goes from a branch or jump to where it leads, as long
-/// as the stack pointer isn't the entering one.
-pub fn jumps_arrive()
-    ensures { JumpsArrive }
-{}

@@ -1,4 +1,0 @@
-// Words of the assembler in the play of a version.
-#![tactic(auto)]
-
-pub mod laws;

@@ -1,9 +1,0 @@
-use Rattle.std.proofs.Common.{◌≡◌, vec_capacity}
-use Rattle.event_runs.specs.Ran.{AreAnswers}
-use Rattle.event_runs.proofs.run.answers.Given as goal
-
-abbrev pub invariant-loop-call : goal.invariant-loop-call
-invariant-loop-call l = record {
-  answers : AreAnswers l.core l.call l.ends.items;
-  room : vec_capacity l.ends ≡ l.count;
-}

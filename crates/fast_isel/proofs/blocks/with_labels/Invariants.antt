@@ -1,0 +1,6 @@
+use Rattle.std.proofs.Common.{◌≡◌}
+use Rattle.quick_code.specs.Assembly.{labelled}
+use Rattle.fast_isel.proofs.blocks.with_labels.Given as goal
+
+abbrev pub invariant-loop-label : goal.invariant-loop-label
+invariant-loop-label l = l.asm ≡ labelled l._label

@@ -1,0 +1,4 @@
+pub mod WordsExact
+pub mod OperatorsExact
+pub mod TypesExact
+pub mod ValuesExact

@@ -1,0 +1,4 @@
+pub mod Words
+pub mod Operators
+pub mod Types
+pub mod Values

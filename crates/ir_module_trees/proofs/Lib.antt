@@ -1,9 +1,0 @@
-pub mod Between
-pub mod Lists
-pub mod CallsBack
-pub mod GepBack
-pub mod LinesBack
-pub mod BlocksBack
-pub mod FunctionsBack
-pub mod InitsBack
-pub mod ModuleBack

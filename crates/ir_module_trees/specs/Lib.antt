@@ -1,4 +1,0 @@
-pub mod Inits
-pub mod Trees
-pub mod Written
-pub mod Laws

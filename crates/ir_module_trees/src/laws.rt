@@ -1,7 +1,0 @@
-// A law of printed text: the function's contract is the law, and its body does nothing.
-ghost use Rattle.ir_module_trees.specs.Laws.{ModulesReadBack};
-
-/// A printed module is a text of its tree.
-pub fn modules_read_back()
-    ensures { ModulesReadBack }
-{}

@@ -1,0 +1,13 @@
+pub mod FormTrees
+pub mod Operators
+pub mod Instructions
+pub mod FormLaws
+pub mod Inits
+pub mod ModuleTrees
+pub mod Written
+pub mod TreeLaws
+pub mod Fits
+pub mod PrintLaws
+pub mod ReadLaws
+pub mod Modules
+pub mod ManyCallsLaws

@@ -1,0 +1,17 @@
+// Laws of what is read: each function's contract is a law.
+ghost use Rattle.ir_print_laws.specs.ReadLaws.{ReadsFit, ReadModulesPrintBack};
+
+use crate::print_laws::prints_back;
+
+/// A module that a text of bytes reads as fits.
+pub fn reads_fit()
+    ensures { ReadsFit }
+{}
+
+/// A module that a text of bytes reads as reads back from its printed text.
+pub fn read_modules_print_back()
+    ensures { ReadModulesPrintBack }
+{
+    reads_fit();
+    prints_back();
+}

@@ -1,4 +1,0 @@
-//! What is printed of a module reads back as it.
-#![tactic(auto)]
-
-pub mod laws;

@@ -1,0 +1,4 @@
+pub mod Leading
+pub mod Shown
+pub mod Lists
+pub mod One

@@ -1,5 +1,0 @@
-use Rattle.ir_round_trip.proofs.ValuesBack.{operand_back}
-use Rattle.ir_round_trip.proofs.laws.operands_read_back.Goals as goal
-
-pub returns : goal.returns
-returns c = λ globals ty one rest n k. let h = operand_back globals ty one rest (record { no_name = n; no_colon = k }) in (h.value, h.read, h.tree)

@@ -1,5 +1,0 @@
-use Rattle.ir_round_trip.proofs.OperationsWhole.{operation_back}
-use Rattle.ir_round_trip.proofs.laws.operations_read_back.Goals as goal
-
-pub returns : goal.returns
-returns c = λ m ret gives op rest plain n k. let h = operation_back m ret gives op rest plain (record { no_name = n; no_colon = k }) in (h.operation, h.read, h.tree)

@@ -1,4 +1,0 @@
-pub mod Trees
-pub mod Operators
-pub mod Instructions
-pub mod Laws

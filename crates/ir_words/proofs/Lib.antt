@@ -1,3 +1,0 @@
-pub mod WordsExact
-pub mod OperatorsExact
-pub mod TypesExact

@@ -1,5 +1,0 @@
-use Rattle.jit_bench.proofs.Answers.{right_over}
-use Rattle.jit_bench.proofs.laws.bench_answers_are_right.Goals as goal
-
-pub returns : goal.returns
-returns c = right_over

@@ -1,9 +1,0 @@
-pub mod Readying
-pub mod Answering
-pub mod Each
-pub mod Ended
-pub mod Gathering
-pub mod Starting
-pub mod Entering
-pub mod Serving
-pub mod Parting

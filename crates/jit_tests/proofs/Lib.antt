@@ -1,0 +1,3 @@
+pub mod TableQuick
+pub mod EventQuick
+pub mod Firsts

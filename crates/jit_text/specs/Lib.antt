@@ -1,0 +1,4 @@
+pub mod RefusalTexts
+pub mod Parts
+pub mod ManyCallsTexts
+pub mod Counts

@@ -1,7 +1,0 @@
-use Rattle.jit_workers.specs.Workers.{IsSameAsking}
-use Rattle.jit_workers.proofs.asking.Asking.ask_all.Given as goal
-
-abbrev pub invariant-loop-symbol : goal.invariant-loop-symbol
-invariant-loop-symbol g l = record {
-  same : IsSameAsking g.P.ReoptPolicy.marks l.fn.self l.self;
-}

@@ -1,7 +1,0 @@
-use Rattle.jit_workers.specs.Workers.{IsSameWorker}
-use Rattle.jit_workers.proofs.worker.Worker.run.Given as goal
-
-abbrev pub invariant-loop : goal.invariant-loop
-invariant-loop g l = record {
-  same : IsSameWorker g.P.ReoptPolicy.marks l.fn.self l.self;
-}

@@ -1,6 +1,0 @@
-use Rattle.std.proofs.Common.{◌≡◌}
-use Rattle.fast_isel.specs.Assembly.{labelled}
-use Rattle.quick_blocks.proofs.blocks.with_labels.Given as goal
-
-abbrev pub invariant-loop-label : goal.invariant-loop-label
-invariant-loop-label l = l.asm ≡ labelled l._label

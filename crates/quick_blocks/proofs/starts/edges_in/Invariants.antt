@@ -1,6 +1,0 @@
-use Rattle.std.proofs.Common.{◌≡◌, ◌+◌, drop}
-use Rattle.fast_isel.specs.Blocks.{edges_in}
-use Rattle.quick_blocks.proofs.starts.edges_in.Given as goal
-
-abbrev pub invariant-loop-inst : goal.invariant-loop-inst
-invariant-loop-inst l = l.count + edges_in (drop l.inst-index l.insts) ≡ edges_in l.insts

@@ -1,6 +1,0 @@
-use Rattle.std.proofs.Common.{◌≡◌, drop}
-use Rattle.quick_pieces.specs.Operands.{are_arguments}
-use Rattle.quick_blocks.proofs.taken.are_arguments.Given as goal
-
-abbrev pub invariant-loop-operand : goal.invariant-loop-operand
-invariant-loop-operand l = are_arguments l.values (drop l.operand-index l.arguments) ≡ are_arguments l.values l.arguments

@@ -1,6 +1,0 @@
-use Rattle.std.proofs.Common.{◌≡◌, drop}
-use Rattle.quick_pieces.specs.Operands.{are_indices}
-use Rattle.quick_blocks.proofs.taken.are_indices.Given as goal
-
-abbrev pub invariant-loop-index : goal.invariant-loop-index
-invariant-loop-index l = are_indices l.values (drop l.index-index l.indices) ≡ are_indices l.values l.indices

@@ -1,6 +1,0 @@
-use Rattle.std.proofs.Common.{◌≡◌, drop}
-use Rattle.quick_pieces.specs.Operands.{are_widths}
-use Rattle.quick_blocks.proofs.taken.are_widths.Given as goal
-
-abbrev pub invariant-loop-ty : goal.invariant-loop-ty
-invariant-loop-ty l = are_widths (drop l.ty-index l.tys) ≡ are_widths l.tys

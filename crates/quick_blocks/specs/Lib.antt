@@ -1,3 +1,0 @@
-pub mod Written
-pub mod Taken
-pub mod Laws

@@ -1,0 +1,5 @@
+//! The code of the quick tier: what it is, and why it is good.
+#![tactic(auto)]
+
+pub mod assembly_laws;
+pub mod laws;

@@ -1,2 +1,0 @@
-pub mod OneCode
-pub mod Pushing

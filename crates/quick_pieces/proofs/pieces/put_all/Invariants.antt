@@ -1,6 +1,0 @@
-use Rattle.std.proofs.Common.{◌≡◌, drop}
-use Rattle.quick_pieces.specs.Written.{put_code}
-use Rattle.quick_pieces.proofs.pieces.put_all.Given as goal
-
-abbrev pub invariant-loop-instr : goal.invariant-loop-instr
-invariant-loop-instr l = put_code l.asm (drop l.instr-index l.instrs) ≡ put_code l.fn.asm l.instrs

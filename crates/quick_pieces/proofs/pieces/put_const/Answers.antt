@@ -1,6 +1,0 @@
-use Rattle.std.proofs.Common.{◌∙◌}
-use Rattle.quick_pieces.proofs.Put.{loaded_code}
-use Rattle.quick_pieces.proofs.pieces.put_const.Goals as goal
-
-pub returns : goal.returns
-returns c = c.in_ok-load_const.ensures.added ∙ loaded_code c.args.asm.now c.args.register c.args.number

@@ -1,6 +1,0 @@
-use Rattle.std.proofs.Common.{◌≡◌, ◌++◌, drop}
-use Rattle.refusal_texts.specs.Texts.{walk_text}
-use Rattle.refusal_texts.proofs.page.push_walk.Given as goal
-
-abbrev pub invariant-loop-block : goal.invariant-loop-block
-invariant-loop-block l = l.page ++ walk_text (drop l.block-index l.walk) ≡ l.fn.page ++ walk_text l.walk

@@ -1,5 +1,0 @@
-use Rattle.std.proofs.Common.{◌≡◌}
-use Rattle.table_tests.proofs.tests.Keeping.go.Given as goal
-
-abbrev pub invariant-loop-version : goal.invariant-loop-version
-invariant-loop-version l = l.self.keeper.desk.seat.table ≡ l.fn.self.keeper.desk.seat.table

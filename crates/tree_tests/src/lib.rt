@@ -1,5 +1,0 @@
-//! Texts in the form that clang writes, read as trees. Nothing but tests.
-#![tactic(auto)]
-
-#[cfg(test)]
-mod tests;
