@@ -2,7 +2,7 @@
 pub const GREATEST_LEVEL: u32 = 1;
 
 /// The options of `run` and `big`.
-#[derive(Clone, Copy, Debug, PartialEq, Eq)]
+#[derive(Clone, Copy, PartialEq, Eq)]
 pub struct RunOptions {
     /// The number of harts, 1 to 16.
     pub harts: u32,
@@ -17,7 +17,7 @@ pub struct RunOptions {
 }
 
 /// The options of `sim`.
-#[derive(Clone, Copy, Debug, PartialEq, Eq)]
+#[derive(Clone, Copy, PartialEq, Eq)]
 pub struct SimOptions {
     /// The number that the draws begin with.
     pub draw: u64,
@@ -32,7 +32,7 @@ pub struct SimOptions {
 }
 
 /// A command with all that it takes; the names of files are those in the words.
-#[derive(Clone, Copy, Debug, PartialEq, Eq)]
+#[derive(Clone, Copy, PartialEq, Eq)]
 pub enum CommandLine<'a> {
     /// Runs the calls of a list on harts.
     Run {

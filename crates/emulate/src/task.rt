@@ -4,7 +4,7 @@ ghost use Rattle.std.specs.Prelude.{◌≤◌, length};
 use std::alloc::{AllocError, Global};
 
 /// A task. Numbers are hexadecimal.
-#[derive(Debug, Drop)]
+#[derive(Drop)]
 pub enum Task {
     /// `spell WORD`: what the word spells.
     Spell(u32),

@@ -54,7 +54,7 @@ pub fn quick_flow(
 }
 
 /// Makes quick code under any level, and never refuses a function as crowded.
-#[derive(Clone, Copy, Debug, Drop)]
+#[derive(Clone, Copy, Drop)]
 pub struct QuickMaker;
 
 impl Maker for QuickMaker {

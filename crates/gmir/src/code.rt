@@ -2,7 +2,7 @@
 use sqlite_items::Items;
 
 /// What a register holds.
-#[derive(Clone, Copy, Debug, PartialEq, Eq, Drop)]
+#[derive(Clone, Copy, PartialEq, Eq, Drop)]
 pub enum GType {
     /// A scalar of so many bits, from 1 to 64.
     S(u32),
@@ -12,7 +12,7 @@ pub enum GType {
 
 /// The generic instructions, after those of LLVM's GlobalISel (its names begin with `G_`), and some of our own from `Param` on.
 /// No operation has a flag.
-#[derive(Clone, Copy, Debug, PartialEq, Eq, Drop)]
+#[derive(Clone, Copy, PartialEq, Eq, Drop)]
 pub enum GOp {
     Add,
     Sub,
@@ -71,7 +71,7 @@ pub enum GOp {
 }
 
 /// An instruction: it reads `uses` and writes `defs`.
-#[derive(Debug, Drop)]
+#[derive(Drop)]
 pub struct GInst {
     pub op: GOp,
     pub defs: Items<u32>,
@@ -81,7 +81,7 @@ pub struct GInst {
 }
 
 /// A function of generic machine code.
-#[derive(Debug, Drop)]
+#[derive(Drop)]
 pub struct GFunction {
     /// The number of the function that it came from.
     pub symbol: u32,

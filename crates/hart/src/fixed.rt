@@ -12,7 +12,7 @@ use rv_play::version::Version;
 use std::alloc::{AllocError, Global};
 
 /// The words of versions in order, each behind its header, and the cells with their bases.
-#[derive(Debug, Drop)]
+#[derive(Drop)]
 pub struct FixedFabric {
     pub(crate) cells: Vec<u64>,
     pub(crate) code: Vec<u32>,

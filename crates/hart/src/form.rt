@@ -7,7 +7,7 @@ use rv_core::instr::{BranchOp, ImmOp, Instr, LoadOp, RegOp, StoreOp};
 use rv_core::reg::Reg;
 
 /// An instruction by its operation. Registers come in the order of `Instr`.
-#[derive(Clone, Copy, Debug, PartialEq, Eq)]
+#[derive(Clone, Copy, PartialEq, Eq)]
 pub enum Form {
     Lui(Reg, u32),
     Auipc(Reg, u32),

@@ -9,7 +9,7 @@ use rj_num::NoMemory;
 use std::alloc::Global;
 
 /// A word and its form.
-#[derive(Clone, Copy, Debug)]
+#[derive(Clone, Copy)]
 struct Entry {
     word: u32,
     form: Form,
@@ -17,7 +17,7 @@ struct Entry {
 }
 
 /// An entry for each place. Which word an entry is of is compared each time that it is used.
-#[derive(Debug, Drop)]
+#[derive(Drop)]
 pub struct Forms {
     entries: Vec<Entry>,
     ghost long: { length entries.items ≡ 4096 },

@@ -8,14 +8,14 @@ use rv_core::step::Regs;
 use sqlite_items::Items;
 
 /// The first bytes of data memory, from its start on, and the address behind the last of them and the zeros that follow.
-#[derive(Debug, Drop)]
+#[derive(Drop)]
 pub struct Image {
     pub bytes: Items<u8>,
     pub top: u64,
 }
 
 /// What a hart wants next.
-#[derive(Clone, Copy, Debug, PartialEq, Eq)]
+#[derive(Clone, Copy, PartialEq, Eq)]
 pub enum Wanted {
     /// The call begins: nothing has been asked before.
     Begin,
@@ -31,7 +31,7 @@ pub enum Wanted {
 }
 
 /// What is given to a hart.
-#[derive(Clone, Copy, Debug, PartialEq, Eq)]
+#[derive(Clone, Copy, PartialEq, Eq)]
 pub enum Given {
     Nothing,
     /// The base that the cell holds.
@@ -41,7 +41,7 @@ pub enum Given {
 }
 
 /// What a call waits for.
-#[derive(Clone, Copy, Debug, PartialEq, Eq)]
+#[derive(Clone, Copy, PartialEq, Eq)]
 pub enum Phase {
     Idle,
     Start,
@@ -55,7 +55,7 @@ pub enum Phase {
 }
 
 /// What an instruction has led to.
-#[derive(Clone, Copy, Debug, PartialEq, Eq)]
+#[derive(Clone, Copy, PartialEq, Eq)]
 pub enum Did {
     On,
     /// A register is to get the base that a symbol's cell holds.
@@ -66,7 +66,7 @@ pub enum Did {
 }
 
 /// A hart: registers, data memory and a control stack, the results' widths of a module's functions, and a call on its way.
-#[derive(Debug, Drop)]
+#[derive(Drop)]
 pub struct Hart {
     pub(crate) regs: Regs,
     pub(crate) bytes: Vec<u8>,

@@ -24,7 +24,7 @@ pub const CONTROL: u64 = 0x4000_0000;
 pub const CONTROL_END: u64 = 0x4080_0000;
 
 /// Where bytes stand: at a place of data memory, at one of the control stack, or in neither.
-#[derive(Clone, Copy, Debug, PartialEq, Eq)]
+#[derive(Clone, Copy, PartialEq, Eq)]
 pub enum Found {
     Bytes(usize),
     Control(usize),
@@ -32,7 +32,7 @@ pub enum Found {
 }
 
 /// Where an instruction stands, or why none is run any more: at the exit, for want of fuel, or because none stands there.
-#[derive(Clone, Copy, Debug, PartialEq, Eq)]
+#[derive(Clone, Copy, PartialEq, Eq)]
 pub enum At {
     Exit,
     Spent,

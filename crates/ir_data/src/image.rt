@@ -15,7 +15,7 @@ use std::alloc::{AllocError, Global};
 use thiserror::Error;
 
 /// The first bytes of data memory, up to the last global's end, and the address behind those that globals take.
-#[derive(Debug, Drop)]
+#[derive(Drop)]
 pub struct Image {
     pub bytes: Items<u8>,
     pub top: u64,

@@ -2,7 +2,7 @@
 use sqlite_items::Items;
 
 /// What an instruction that was paid for leads to. A value is None where it is poison, or where there is none.
-#[derive(Debug, Drop)]
+#[derive(Drop)]
 pub enum Done {
     /// The activation goes on.
     Goes,

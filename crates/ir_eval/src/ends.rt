@@ -2,7 +2,7 @@
 use ir_meaning::activation::Activation;
 
 /// How a run ends. A value is None where it is poison, or where there is none.
-#[derive(Clone, Copy, Debug, PartialEq, Eq, Drop)]
+#[derive(Clone, Copy, PartialEq, Eq, Drop)]
 pub enum End {
     Answer(Option<u128>),
     Stack,
@@ -11,7 +11,7 @@ pub enum End {
 }
 
 /// What an entry leads to.
-#[derive(Debug, Drop)]
+#[derive(Drop)]
 pub enum Entered {
     Opens(Activation),
     Ends(End),

@@ -25,7 +25,7 @@ use sqlite_items::Items;
 use std::alloc::{AllocError, Global};
 
 /// How a call ended, and how often it entered each symbol.
-#[derive(Debug, Drop)]
+#[derive(Drop)]
 struct Finished {
     end: End,
     counts: Items<u64>,

@@ -8,7 +8,7 @@ use ir_core::layout::{Extent, int_extent};
 use ir_core::types::MemTy;
 
 /// The extent of a type, and the size of the outermost type in it that takes more than 2^32 bytes.
-#[derive(Clone, Copy, Debug, Drop)]
+#[derive(Clone, Copy, Drop)]
 pub struct Measured {
     pub extent: Extent,
     pub passing: Option<u64>,

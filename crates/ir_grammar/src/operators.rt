@@ -113,7 +113,7 @@ fn with_flag(allowed: Flags, flags: Flags, name: &[u8]) -> Option<Flags>
 }
 
 /// Flags in any order.
-#[derive(Debug, Drop)]
+#[derive(Drop)]
 pub struct FlagList {
     pub allowed: Flags,
     pub flags: Flags,

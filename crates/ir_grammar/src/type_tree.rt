@@ -3,7 +3,7 @@ use ir_text::{Name, Number};
 use sqlite_items::Items;
 
 /// A part of a type, with its place, by how many bytes are left from its first token on; what stands inside it follows.
-#[derive(Debug, Drop)]
+#[derive(Drop)]
 pub enum TypeNode {
     Void(usize),
     /// The digits of the width, and the place.
@@ -20,7 +20,7 @@ pub enum TypeNode {
 pub type Type = Items<TypeNode>;
 
 /// `align` and its number, with the place of the word.
-#[derive(Debug, Drop)]
+#[derive(Drop)]
 pub struct Align {
     pub left: usize,
     pub number: Number,

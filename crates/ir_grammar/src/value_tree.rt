@@ -4,14 +4,14 @@ use ir_text::{Name, Number};
 use sqlite_items::Items;
 
 /// An index of a constant address.
-#[derive(Debug, Drop)]
+#[derive(Drop)]
 pub struct Index {
     pub ty: TypeNode,
     pub number: Number,
 }
 
 /// `@NAME` inside as many `getelementptr` as there are heads; the first of the tails is the innermost one's indices.
-#[derive(Debug, Drop)]
+#[derive(Drop)]
 pub struct Address {
     pub left: usize,
     pub heads: Items<Type>,
@@ -19,7 +19,7 @@ pub struct Address {
     pub tails: Items<Items<Index>>,
 }
 
-#[derive(Debug, Drop)]
+#[derive(Drop)]
 pub enum Value {
     Local(Name),
     Number(Number),
@@ -30,14 +30,14 @@ pub enum Value {
     Address(Address),
 }
 
-#[derive(Debug, Drop)]
+#[derive(Drop)]
 pub struct Typed {
     pub ty: Type,
     pub value: Value,
 }
 
 /// A part of an initial value; a list's elements follow, each behind its type.
-#[derive(Debug, Drop)]
+#[derive(Drop)]
 pub enum InitNode {
     Number(Number),
     True(usize),

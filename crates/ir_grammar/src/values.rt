@@ -36,7 +36,7 @@ fn address_word(reader: &mut Reader<'_>) -> Result<(), Stop>
 }
 
 /// Words of the `getelementptr` of a constant, which are dropped.
-#[derive(Debug, Drop)]
+#[derive(Drop)]
 pub struct AddressWordList;
 
 impl Turn for AddressWordList {
@@ -68,7 +68,7 @@ pub fn index_form(reader: &mut Reader<'_>) -> Result<Index, Stop>
     Ok(Index { ty, number })
 }
 
-#[derive(Debug, Drop)]
+#[derive(Drop)]
 pub struct IndexList {
     pub indices: Items<Index>,
 }
@@ -101,7 +101,7 @@ fn address_head(reader: &mut Reader<'_>) -> Result<Type, Stop>
     Ok(ty)
 }
 
-#[derive(Debug, Drop)]
+#[derive(Drop)]
 pub struct HeadList {
     pub heads: Items<Type>,
 }
@@ -132,7 +132,7 @@ fn address_tail(reader: &mut Reader<'_>) -> Result<Items<Index>, Stop>
     Ok(all.indices)
 }
 
-#[derive(Debug, Drop)]
+#[derive(Drop)]
 pub struct TailList {
     pub count: usize,
     pub tails: Items<Items<Index>>,

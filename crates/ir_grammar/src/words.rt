@@ -377,7 +377,7 @@ fn word_item(reader: &mut Reader<'_>) -> Result<(), Stop>
 }
 
 /// Words that are dropped.
-#[derive(Debug, Drop)]
+#[derive(Drop)]
 pub struct WordList;
 
 impl Turn for WordList {
@@ -425,7 +425,7 @@ pub fn attribute_item(reader: &mut Reader<'_>) -> Result<(), Stop>
 }
 
 /// Attributes that are dropped.
-#[derive(Debug, Drop)]
+#[derive(Drop)]
 pub struct AttributeList;
 
 impl Turn for AttributeList {
@@ -474,7 +474,7 @@ fn named_metadata(reader: &mut Reader<'_>) -> Result<(), Stop>
 }
 
 /// What stands behind a comma behind an instruction or a global.
-#[derive(Debug, Drop)]
+#[derive(Drop)]
 pub struct SuffixList {
     /// What `align` says.
     pub aligns: Items<Align>,

@@ -14,7 +14,7 @@ use ir_resolve::operands::is_ty;
 use ir_types::{Fault, natural};
 
 /// A built-in, and the width that its name says.
-#[derive(Clone, Copy, Debug, PartialEq, Eq, Drop)]
+#[derive(Clone, Copy, PartialEq, Eq, Drop)]
 pub struct NamedBuiltIn {
     pub which: BuiltIn,
     pub width: u32,

@@ -11,7 +11,7 @@ use std::marker::Model;
 pub const DATA_START: u64 = 0x1000_0000;
 
 /// The bytes from the start of data memory to the data top.
-#[derive(Debug, Drop)]
+#[derive(Drop)]
 pub struct DataMemory {
     cells: Vec<u16>,
 }

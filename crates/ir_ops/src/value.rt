@@ -6,7 +6,7 @@ ghost use Rattle.rj_num.specs.Width.{signed as signed_of, is_negative as is_nega
 use rj_num::width::{mask, sign_of};
 
 /// What an instruction gives where it may be undefined.
-#[derive(Clone, Copy, Debug, PartialEq, Eq, Drop)]
+#[derive(Clone, Copy, PartialEq, Eq, Drop)]
 pub enum Computed {
     Gives(Option<u128>),
     NoMeaning,

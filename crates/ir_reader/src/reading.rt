@@ -17,7 +17,7 @@ use sqlite_items::Items;
 use std::alloc::{AllocError, Global};
 
 /// Why a text has no module; each place is counted from the front of the text.
-#[derive(Debug, Drop)]
+#[derive(Drop)]
 pub enum ReadRefusal {
     /// What stands at the place doesn't fit.
     Syntax { at: u32 },

@@ -34,7 +34,7 @@ pub struct Heads<'a> {
 }
 
 /// How many types are still to come, and the offset so far.
-#[derive(Clone, Copy, Debug, Drop)]
+#[derive(Clone, Copy, Drop)]
 pub struct Way {
     pub heads: usize,
     pub offset: u64,

@@ -15,7 +15,7 @@ use sqlite_items::Items;
 use std::alloc::Global;
 
 /// A part of a type; what stands inside it follows. A place is how many bytes are left from it on.
-#[derive(Clone, Copy, Debug, Drop)]
+#[derive(Clone, Copy, Drop)]
 pub enum Part {
     /// The width, and the place.
     Int(u32, usize),

@@ -12,7 +12,7 @@ use sqlite_items::Items;
 use std::alloc::Global;
 
 /// A definition that is gone through, up to a position, with the summary of what stands before that.
-#[derive(Clone, Copy, Debug, Drop)]
+#[derive(Clone, Copy, Drop)]
 pub struct Frame {
     pub ty: u32,
     pub position: usize,

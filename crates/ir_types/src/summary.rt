@@ -13,7 +13,7 @@ use ir_core::types::MAX_WIDTH;
 use sqlite_items::Items;
 
 /// What is known of a type without writing it out.
-#[derive(Clone, Copy, Debug, Drop)]
+#[derive(Clone, Copy, Drop)]
 pub struct Summary {
     /// How many types it is made of, itself with them, up to the greatest number.
     pub nodes: u64,
@@ -24,7 +24,7 @@ pub struct Summary {
 }
 
 /// A named type while definitions are resolved.
-#[derive(Clone, Copy, Debug, Drop)]
+#[derive(Clone, Copy, Drop)]
 pub enum Entry {
     Fresh,
     /// Its definition is being gone through.

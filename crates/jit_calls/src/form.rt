@@ -5,7 +5,7 @@ use rj_num::NoMemory as OutOfMemory;
 use std::alloc::{AllocError, AllocFailed};
 
 /// Why a text wasn't read.
-#[derive(Clone, Copy, Debug, PartialEq, Eq)]
+#[derive(Clone, Copy, PartialEq, Eq)]
 pub enum Refusal {
     /// The text doesn't have the form.
     Form,

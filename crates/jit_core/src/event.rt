@@ -4,7 +4,7 @@ use code_epochs::PublishRefusal;
 use rv_play::version::Version;
 
 /// What happens next.
-#[derive(Debug, Drop)]
+#[derive(Drop)]
 pub enum Event {
     /// The hart with this number goes on, up to and with its next step on a shared word.
     Hart(u32),
@@ -15,7 +15,7 @@ pub enum Event {
 }
 
 /// What an event has led to.
-#[derive(Debug, Drop)]
+#[derive(Drop)]
 pub enum Stepped {
     /// One step on a shared word was made.
     Moved,

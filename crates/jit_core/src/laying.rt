@@ -7,7 +7,7 @@ use code_epochs::{CodeState, store_word, swap_cell};
 use rv_play::version::Version;
 
 /// A version that has a range from its base on, and how many of its words are stored there, its header with them.
-#[derive(Debug, Drop)]
+#[derive(Drop)]
 pub struct Laying {
     pub version: Version,
     pub base: u64,

@@ -3,7 +3,7 @@
 use crate::laying::Laying;
 
 /// A version that is being published. It is a draft until the epoch is raised.
-#[derive(Debug, Drop)]
+#[derive(Drop)]
 pub enum Publishing {
     /// It has a range, and is stored there.
     Storing(Laying),
@@ -12,7 +12,7 @@ pub enum Publishing {
 }
 
 /// A version, and the hart whose word is looked at for it.
-#[derive(Clone, Copy, Debug)]
+#[derive(Clone, Copy)]
 pub struct Pair {
     pub version: u32,
     pub hart: u32,

@@ -23,7 +23,7 @@ use rv_play::version::Version;
 use std::alloc::Global;
 
 /// What a run is: the number from which its events are drawn, how many draws there are, and how many harts and code words.
-#[derive(Clone, Copy, Debug)]
+#[derive(Clone, Copy)]
 pub struct Plan {
     pub draw: u64,
     pub steps: u32,
@@ -32,7 +32,7 @@ pub struct Plan {
 }
 
 /// What a run has led to: the answers of the calls in order, and how many versions there are.
-#[derive(Debug, Drop)]
+#[derive(Drop)]
 pub struct Report {
     pub answers: Vec<Ended>,
     pub versions: u32,

@@ -13,7 +13,7 @@ use hart::{Given, Hart, Image, Wanted};
 use ir_meaning::calls::{Ended, ListedCall};
 
 /// What a hart's next step on a shared word is.
-#[derive(Clone, Copy, Debug)]
+#[derive(Clone, Copy)]
 pub enum Stage {
     /// To load the epoch, where it has another call.
     Idle,
@@ -28,7 +28,7 @@ pub enum Stage {
 }
 
 /// A hart, what its next step is, and the answers of its calls that have ended.
-#[derive(Debug, Drop)]
+#[derive(Drop)]
 pub struct Seat {
     pub(crate) hart: Hart,
     pub(crate) stage: Stage,

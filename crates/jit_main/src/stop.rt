@@ -4,7 +4,7 @@ use ir_verify::refusal::VerifyRefusal;
 use jit_calls::CallsRefusal;
 
 /// Why the program stops before it writes its answers.
-#[derive(Debug, Drop)]
+#[derive(Drop)]
 pub enum Stop<'a> {
     /// The words are no command.
     Usage,

@@ -1,7 +1,7 @@
 //! What a session tells a gate.
 
 /// Where a session is.
-#[derive(Clone, Copy, Debug, PartialEq, Eq)]
+#[derive(Clone, Copy, PartialEq, Eq)]
 pub enum Point {
     /// A hart counts an entry of a symbol. The base is the one that it loaded last.
     Entry {
@@ -29,7 +29,7 @@ pub trait Gate {
 }
 
 /// A gate that holds nothing up.
-#[derive(Clone, Copy, Debug, Drop)]
+#[derive(Clone, Copy, Drop)]
 pub struct NoGate;
 
 impl Gate for NoGate {

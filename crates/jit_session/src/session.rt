@@ -39,7 +39,7 @@ use std::sync::Wait;
 use std::thread::Threads;
 
 /// The numbers of harts, from 1 to 16, of workers, up to 8, and of code words, from 1 to 4,194,304.
-#[derive(Clone, Copy, Debug, PartialEq, Eq)]
+#[derive(Clone, Copy, PartialEq, Eq)]
 pub struct Setup {
     pub harts: u32,
     pub workers: u32,

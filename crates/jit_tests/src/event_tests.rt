@@ -77,7 +77,7 @@ fn one_version(alloc: Global, all: &Checked) -> Result<Vec<Version>, NoMemory>
 }
 
 // What an order was answered.
-#[derive(Clone, Copy, Debug, PartialEq, Eq)]
+#[derive(Clone, Copy, PartialEq, Eq)]
 enum Answer {
     Taken,
     Busy,

@@ -10,7 +10,7 @@ use sqlite_items::Items;
 use std::alloc::Global;
 
 /// What the search knows so far.
-#[derive(Debug, Drop)]
+#[derive(Drop)]
 pub struct Search {
     /// The first and the last point of each register.
     pub spans: Vec<Option<(u32, u32)>>,

@@ -3,7 +3,7 @@ use rv_core::instr::{BranchOp, ImmOp, LoadOp, RegOp, StoreOp};
 use sqlite_items::Items;
 
 /// An instruction over virtual registers.
-#[derive(Debug, Drop)]
+#[derive(Drop)]
 pub enum MInst {
     /// A register takes the argument at this place, below 8.
     Param(u32, u32),
@@ -38,7 +38,7 @@ pub enum MInst {
 }
 
 /// A function of target code.
-#[derive(Debug, Drop)]
+#[derive(Drop)]
 pub struct MFunction {
     /// Its number in the module.
     pub symbol: u32,

@@ -10,7 +10,7 @@ use std::marker::Model;
 const GROUP: usize = 64;
 
 /// For each place the last point of what it holds. A place is free at each point behind that.
-#[derive(Debug, Drop)]
+#[derive(Drop)]
 pub struct Ends {
     last: Vec<u32>,
     /// For each group of places the least of their last points.

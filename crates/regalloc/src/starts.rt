@@ -7,7 +7,7 @@ use rj_num::NoMemory;
 use std::alloc::Global;
 
 /// A register whose span has a point, with the first and the last.
-#[derive(Clone, Copy, Debug, Drop)]
+#[derive(Clone, Copy, Drop)]
 pub struct Start {
     pub first: u32,
     pub register: u32,

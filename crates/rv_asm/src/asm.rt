@@ -21,7 +21,7 @@ use std::marker::Model;
 
 /// Instructions, branches and jumps in order, and labels between them. It holds at most 2 ^ 29 of them, and more is want
 /// of memory.
-#[derive(Debug, Drop)]
+#[derive(Drop)]
 pub struct Asm {
     items: Vec<Item>,
     bound: Vec<Option<u32>>,

@@ -2,7 +2,7 @@
 use sqlite_items::Items;
 
 /// The words of one version of a function: its symbol, and its level from 1 to 3.
-#[derive(Debug, Drop)]
+#[derive(Drop)]
 pub struct Version {
     pub symbol: u32,
     pub level: u8,
