@@ -5,6 +5,10 @@
 set -eu
 to=$(realpath "$1")
 cd "$(dirname "$0")"
+# What clang leaves behind where it fails, a script and a text, goes into a folder of this run's own.
+TMPDIR=$(mktemp -d)
+export TMPDIR
+trap 'rm -rf "$TMPDIR"' EXIT
 flags=(--target=riscv64-unknown-linux-gnu -march=rv64im -mabi=lp64 -ffreestanding -S -emit-llvm -fno-vectorize -fno-slp-vectorize
     -fno-unroll-loops -mllvm -opaque-pointers -w)
 # The passes for files on which clang 14 itself fails with opaque pointers: those of -O1 but for loop-load-elim.
@@ -28,4 +32,3 @@ done
 cp odd.ll "$to/odd.ll"
 cp odd.calls "$to/odd.calls"
 python3 odd_answers.py > "$to/odd.answers"
-rm -f "${TMPDIR:-/tmp}"/*-??????.sh "${TMPDIR:-/tmp}"/*-??????.c

@@ -341,7 +341,7 @@ attributes #13 = { inaccessiblememonly nofree nosync nounwind willreturn }
 !llvm.ident = !{!13}
 
 !0 = distinct !DICompileUnit(language: DW_LANG_C99, file: !1, producer: "Debian clang version 14.0.6", isOptimized: true, runtimeVersion: 0, emissionKind: FullDebug, retainedTypes: !2, splitDebugInlining: false, nameTableKind: None)
-!1 = !DIFile(filename: "loops.c", directory: "/work/h/text/bench/texts", checksumkind: CSK_MD5, checksum: "055b57c3ff15323e7d66c70bbe4fcae4")
+!1 = !DIFile(filename: "loops.c", directory: "bench/texts", checksumkind: CSK_MD5, checksum: "055b57c3ff15323e7d66c70bbe4fcae4")
 !2 = !{!3, !4, !5}
 !3 = !DIBasicType(name: "unsigned char", size: 8, encoding: DW_ATE_unsigned_char)
 !4 = !DIBasicType(name: "short", size: 16, encoding: DW_ATE_signed)
