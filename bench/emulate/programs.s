@@ -55,31 +55,38 @@ fibonacci:
     addi sp, sp, 32
     jalr x0, 0(ra)
 
-# The number of primes below 1,048,576 by a sieve of bytes, 20 times.
-.globl sieve
-sieve:
+# A megabyte of bytes, each the sum of the two before it, turned end for end and hashed, 20 times.
+.globl bytes
+bytes:
     addi a0, x0, 20
     lui t6, 256
     add t5, t6, s11
-    addi t4, x0, 1
-0:  addi t0, s11, 0
-1:  sd x0, 0(t0)
-    addi t0, t0, 8
-    bne t0, t5, 1b
     addi a1, x0, 0
-    addi t1, x0, 2
-2:  add t0, s11, t1
+    addi a2, x0, 31
+0:  addi t0, s11, 0
+    addi t1, a0, 0
+    addi t2, x0, 1
+1:  add t3, t1, t2
+    sb t3, 0(t0)
+    addi t1, t2, 0
     lbu t2, 0(t0)
-    bne t2, x0, 4f
-    addi a1, a1, 1
-    mul t0, t1, t1
-    bgeu t0, t6, 4f
-    add t0, t0, s11
-3:  sb t4, 0(t0)
-    add t0, t0, t1
+    addi t0, t0, 1
+    bltu t0, t5, 1b
+    addi t0, s11, 0
+    addi t1, t5, -1
+2:  lbu t2, 0(t0)
+    lbu t3, 0(t1)
+    sb t3, 0(t0)
+    sb t2, 0(t1)
+    addi t0, t0, 1
+    addi t1, t1, -1
+    bltu t0, t1, 2b
+    addi t0, s11, 0
+3:  lbu t2, 0(t0)
+    mul a1, a1, a2
+    add a1, a1, t2
+    addi t0, t0, 1
     bltu t0, t5, 3b
-4:  addi t1, t1, 1
-    bne t1, t6, 2b
     addi a0, a0, -1
     bne a0, x0, 0b
     addi a0, a1, 0
