@@ -12,7 +12,7 @@ import os
 import re
 import sys
 
-MOST_EDITS, MOST_CRATES_WITH_EDITS, MOST_LINES, MOST_FUNCTIONS_BESIDE_TESTS = 4, 30, 800, 30
+MOST_EDITS, MOST_CRATES_WITH_EDITS, MOST_LINES, MOST_FUNCTIONS, MOST_FUNCTIONS_BESIDE_TESTS = 4, 30, 800, 100, 30
 # Files whose lines are counted: what people write. Tables of tests and texts of other programs aren't.
 WRITTEN = (".rt", ".antt", ".py", ".sh", ".md", ".c", ".s")
 WORD = r"[A-Za-z_][\w'-]*"
@@ -63,14 +63,20 @@ class House:
             if not line.strip() or line.startswith("#"):
                 continue
             found = re.match(r"(\w+) ([^:]+): *(\S.*)", line)
-            if not found:
+            if not found or found[1] not in ("lines", "debug", "functions", "tests", "machine"):
                 self.breach(f"checks/allowed.txt: no line of the form RULE NAME: REASON: {line}")
                 continue
             allowed.setdefault(found[1], {})[found[2].strip()] = found[3]
         return allowed
 
     def sources(self, crate):
-        return [it for it in self.files if it.startswith(f"crates/{crate}/src/") and it.endswith(".rt")]
+        """Returns the texts of a crate's code."""
+        return [self.text(it) for it in self.files if it.startswith(f"crates/{crate}/src/") and it.endswith(".rt")]
+
+    def functions(self, crate):
+        """Returns how many functions are written in a crate beside its tests; the check counts derives and drops too."""
+        found = r"^\s*(?:pub(?:\([a-z ]+\))? )?(?:const )?fn "
+        return sum(len(re.findall(found, it, re.M)) for it in self.sources(crate) if "#[test]" not in it)
 
 
 def edits(house):
@@ -151,18 +157,26 @@ def debug_text(house):
         house.breach(f"checks/allowed.txt allows Debug in {path}, which doesn't derive it")
 
 
+def functions(house):
+    """A crate has fewer than 100 functions, since it is proved as a whole."""
+    for crate in house.crates:
+        is_allowed, count = crate in house.allowed.get("functions", {}), house.functions(crate)
+        if count >= MOST_FUNCTIONS and not is_allowed:
+            house.breach(f"crates/{crate} has {count} functions, and not below {MOST_FUNCTIONS}: split it by layers")
+        if count < MOST_FUNCTIONS and is_allowed:
+            house.breach(f"checks/allowed.txt allows many functions in {crate}, which has {count}")
+
+
 def tests_apart(house):
     """A crate with tests is proved twice: in a crate of more than thirty functions tests stand beside them only where the list says why."""
-    used = set()
     for crate in house.crates:
-        texts = [house.text(it) for it in house.sources(crate)]
-        functions = sum(len(re.findall(r"^\s*(?:pub(?:\([a-z ]+\))? )?(?:const )?fn ", it, re.M)) for it in texts if "#[test]" not in it)
-        if any("#[test]" in it for it in texts) and functions > MOST_FUNCTIONS_BESIDE_TESTS and not crate.endswith("_tests"):
-            used.add(crate)
-            if crate not in house.allowed.get("tests", {}):
-                house.breach(f"crates/{crate} has tests beside {functions} functions: tests of a large crate stand in a crate of their own")
-    for crate in sorted(set(house.allowed.get("tests", {})) - used):
-        house.breach(f"checks/allowed.txt allows tests beside the functions of {crate}, where the rule asks for no leave")
+        has_tests = any("#[test]" in it for it in house.sources(crate)) and not crate.endswith("_tests")
+        is_allowed, count = crate in house.allowed.get("tests", {}), house.functions(crate)
+        asks = has_tests and count > MOST_FUNCTIONS_BESIDE_TESTS
+        if asks and not is_allowed:
+            house.breach(f"crates/{crate} has tests beside {count} functions: tests of a large crate stand in a crate of their own")
+        if is_allowed and not asks:
+            house.breach(f"checks/allowed.txt allows tests beside the functions of {crate}, where the rule asks for no leave")
 
 
 def alternatives(path):
@@ -276,7 +290,7 @@ def machine(house):
                 house.breach(f"{path} names {found[0]}, a place of the machine that made it")
 
 
-RULES = (listing, edits, sizes, debug_text, tests_apart, paths, crates_named, way_of_data, definitions, machine)
+RULES = (listing, edits, sizes, debug_text, functions, tests_apart, paths, crates_named, way_of_data, definitions, machine)
 
 
 def main(words):

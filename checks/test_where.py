@@ -84,6 +84,8 @@ run named_twice.ll f.calls: named_twice.ll:4:13
 run holds_itself.ll f.calls: holds_itself.ll:1:18
 run no_block.ll f.calls: no_block.ll:2:12
 run parameters.ll f.calls: parameters.ll:1:13
+run size.ll f.calls: size.ll:1:13
+run nodes.ll f.calls: nodes.ll:1:13
 run case_twice.ll f.calls: case_twice.ll:2:3
 run phi_behind.ll f.calls: phi_behind.ll:3:1
 run to_the_entry.ll f.calls: to_the_entry.ll:4:1
