@@ -64,6 +64,16 @@ COUNTED_CASES = [
 
 UNITS = "define void @many() {\n" + "  call void @none(i8 1, i8 2)\n" * 5462 + "  ret void\n}\ndefine void @none(i8 %a, i8 %b) {\n  ret void\n}\n"
 
+# Modules that pass a limit, or end too early, with the message and the place.
+SHORT = {
+    "units.ll": (UNITS, "reopt: module: limit units 16387", "units.ll:1:13: @many has 16387 units"),
+    "functions.ll": ("".join(f"define void @f{it}() {{ ret void }}\n" for it in range(1025)), "reopt: module: limit functions 1025", "functions.ll:1025:13:"),
+    "globals.ll": ("".join(f"@g{it} = global i8 0\n" for it in range(4097)), "reopt: module: limit globals 4097", "globals.ll:4097:1:"),
+    "nine.ll": ("define void @a() { ret void }\ndefine void @nine(i8, i8 %b, i8, i8, i8, i8, i8, i8, ptr %p) { ret void }\n", "reopt: verify: limit parameters 9", "nine.ll:2:13: @nine has 9"),
+    "cut.ll": ("define i64 @f(i64 %a) {\n  %x = add i64 %a,", "reopt: module: syntax at 42", "cut.ll:2:19: the end of the text"),
+    "returns.ll": ("define i64 @f() {\r\n  ret i64 %x\r\n}\r\n", "reopt: module: name at 29: %x", "returns.ll:2:11: the name %x"),
+}
+
 # The refusals of crates/corpus, by command and place.
 CORPUS = '''eval add.ll return_at_the_end.calls: return_at_the_end.calls:1:1
 eval add.calls add.ll: add.calls:1:5
@@ -137,15 +147,16 @@ def where(words, folder, text=""):
 
 def by_hand(folder, wrong):
     """Compares what is shown of modules made by hand."""
-    for name, text in (("counted.ll", COUNTED), ("units.ll", UNITS)):
-        with open(f"{folder}/{name}", "w", encoding="utf-8") as file:
+    for name, text in {"counted.ll": COUNTED, **{it: parts[0] for it, parts in SHORT.items()}}.items():
+        with open(f"{folder}/{name}", "w", encoding="utf-8", newline="") as file:
             file.write(text)
     for message, wanted in COUNTED_CASES:
         shown, status = where(["counted.ll", message], folder)
         wrong += [f"{message}: no '{it}' in: {shown}" for it in wanted if it not in shown] + [f"{message}: status {status}"] * (status != 0)
-    shown, status = where(["units.ll"], folder, "some other line\nreopt: module: limit units 16387\n")
-    if "units.ll:1:13: @many has 16387 units" not in shown or status:
-        wrong.append(f"units: {shown}")
+    for name, (_, message, wanted) in SHORT.items():
+        shown, status = where([name], folder, f"some other line\n{message}\n")
+        if wanted not in shown or status:
+            wrong.append(f"{name}: {message}: {shown}")
     for words, text, wanted in ((["counted.ll", "reopt: usage"], "", 1), ([], "", 2), (["no.ll", "reopt: module: syntax at 3"], "", 2), (["counted.ll"], "", 2)):
         shown, status = where(words, folder, text)
         if status != wanted:
@@ -173,7 +184,7 @@ def main():
     with tempfile.TemporaryDirectory(prefix="reopt-where-") as folder:
         by_hand(folder, wrong)
     by_table(wrong)
-    print("\n".join(f"test_where: {it}" for it in wrong) or f"test_where: {len(COUNTED_CASES) + 5 + CORPUS.count(chr(10))} places as they should be")
+    print("\n".join(f"test_where: {it}" for it in wrong) or f"test_where: {len(COUNTED_CASES) + len(SHORT) + 4 + CORPUS.count(chr(10))} places as they should be")
     return 1 if wrong else 0
 
 
