@@ -217,7 +217,7 @@ def paths(house):
 
 
 def documents(house):
-    return [it for it in house.files if re.match(r"(README|docs/[^/]+|crates/\w+/README|bench/\w+/README|examples/README)\.md$", it) and it != "docs/EDITS.md"]
+    return [it for it in house.files if re.match(r"(README|docs/[^/]+|crates/\w+/README|bench/\w+/README|examples/README|checks/README)\.md$", it) and it != "docs/EDITS.md"]
 
 
 def crates_named(house):
