@@ -281,6 +281,15 @@ def definitions(house):
                 house.breach(f"{page}:{number}: {name} isn't in {cells[2]}")
 
 
+def messages(house):
+    """Each piece of text that the program says when it refuses stands in docs/MESSAGES.md."""
+    page = "docs/MESSAGES.md"
+    for path in ("crates/jit_text/specs/RefusalTexts.antt", "crates/jit_main/specs/Ends.antt"):
+        for piece in re.findall(r'codes "([^"]*)"', house.text(path)) if {page, path} <= set(house.files) else []:
+            if re.search(r"[a-z]", piece.replace("\\n", "")) and piece.replace("\\n", "").strip() not in house.text(page):
+                house.breach(f"{page} says nothing of '{piece}', which {path} has")
+
+
 def machine(house):
     """No text names a folder of the machine that it was made on."""
     for path in house.files:
@@ -290,7 +299,7 @@ def machine(house):
                 house.breach(f"{path} names {found[0]}, a place of the machine that made it")
 
 
-RULES = (listing, edits, sizes, debug_text, functions, tests_apart, paths, crates_named, way_of_data, definitions, machine)
+RULES = (listing, edits, sizes, debug_text, functions, tests_apart, paths, crates_named, way_of_data, definitions, messages, machine)
 
 
 def main(words):

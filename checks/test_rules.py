@@ -51,6 +51,7 @@ BROKEN = [
     ({"docs/ARCHITECTURE.md": "    number --halve--> number      high\n"}, "high is no crate of crates.txt"),
     ({"docs/DEFINITIONS.md": GOOD["docs/DEFINITIONS.md"].replace("`half`", "`third`")}, "third isn't in low/specs/Halves"),
     ({"docs/DEFINITIONS.md": GOOD["docs/DEFINITIONS.md"].replace("Halves", "Thirds")}, "there is no low/specs/Thirds"),
+    ({"crates/jit_text/specs/RefusalTexts.antt": 'a = codes " is odd\\n"\n', "docs/MESSAGES.md": "is even\n"}, "says nothing of ' is odd"),
     ({"bench/a.ll": "; /home/somebody/a.c\n"}, "a place of the machine"),
 ]
 
