@@ -63,7 +63,7 @@ class House:
             if not line.strip() or line.startswith("#"):
                 continue
             found = re.match(r"(\w+) ([^:]+): *(\S.*)", line)
-            if not found or found[1] not in ("lines", "debug", "functions", "tests", "machine"):
+            if not found or found[1] not in ("lines", "debug", "functions", "tests", "machine", "word"):
                 self.breach(f"checks/allowed.txt: no line of the form RULE NAME: REASON: {line}")
                 continue
             allowed.setdefault(found[1], {})[found[2].strip()] = found[3]
@@ -220,6 +220,21 @@ def documents(house):
     return [it for it in house.files if re.match(r"(README|docs/[^/]+|crates/\w+/README|bench/\w+/README|examples/README|checks/README)\.md$", it) and it != "docs/EDITS.md"]
 
 
+def names(house):
+    """A name with an underscore that a document of what stands here puts in backquotes is one of the code, of a crate or of a file."""
+    known = set(house.crates) | set(house.allowed.get("word", {})) | {it.split(".")[0] for it in (os.listdir(KIT_LIBRARIES) if os.path.isdir(KIT_LIBRARIES) else ())}
+    for path in house.files:
+        known.update(re.findall(r"\w+", path))
+        if path.endswith((".rt", ".antt")):
+            known.update(re.findall(r"[A-Za-z_]\w*", house.text(path)))
+    for page in documents(house):
+        for number, line in enumerate(house.text(page).splitlines() if page != "docs/PROVING.md" else (), 1):
+            for word in re.findall(r"`([A-Za-z_]\w*(?:::\w+)*)(?:\([^`]*\))?`", line):
+                for name in word.split("::"):
+                    if "_" in name and name not in known:
+                        house.breach(f"{page}:{number}: {name} is no name of the code")
+
+
 def crates_named(house):
     """A crate that a document names as one is there: in the crate table of README.md, at the way of data, and where a README says what its crate stands on."""
     known = set(house.crates) | {it.split(".")[0] for it in os.listdir(KIT_LIBRARIES)} if os.path.isdir(KIT_LIBRARIES) else None
@@ -299,7 +314,7 @@ def machine(house):
                 house.breach(f"{path} names {found[0]}, a place of the machine that made it")
 
 
-RULES = (listing, edits, sizes, debug_text, functions, tests_apart, paths, crates_named, way_of_data, definitions, messages, machine)
+RULES = (listing, edits, sizes, debug_text, functions, tests_apart, paths, names, crates_named, way_of_data, definitions, messages, machine)
 
 
 def main(words):

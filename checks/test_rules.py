@@ -46,6 +46,7 @@ BROKEN = [
     ({"checks/allowed.txt": GOOD["checks/allowed.txt"] + "tests low: a table\n"}, "the rule asks for no leave"),
     ({"crates/low/README.md": "# low\n\n`specs/Thirds`\n"}, "there is no specs/Thirds"),
     ({"crates/low/README.md": "# low\n\nIt stands on `low`.\n"}, "stands on itself"),
+    ({"crates/low/README.md": "# low\n\n`one_third(n)`\n"}, "one_third is no name of the code"),
     ({"README.md": GOOD["README.md"] + "\n| `high` | Nothing. |\n"}, "README.md has a row for high"),
     ({"README.md": GOOD["README.md"] + "\n| `low` | Again. |\n"}, "README.md has 2 rows for low"),
     ({"docs/ARCHITECTURE.md": "    number --halve--> number      high\n"}, "high is no crate of crates.txt"),
