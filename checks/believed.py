@@ -196,8 +196,17 @@ def main(words):
                 print(f"\n{crate}/specs/{module.replace('.', '/')}")
                 last = crate, module
             print(f"    {name}{'  ' + page.comments[name] if page.comments.get(name) else ''}")
+        print_rest(specs)
         print(f"\n{counted(specs)}")
     return 0
+
+
+def print_rest(specs):
+    """Prints the types of the code and the words of libraries that the definitions speak of."""
+    for title, found in (("Types of the code", specs.types), ("Words of libraries", specs.outside)):
+        print(f"\n{title}")
+        for crate in sorted({it[0] for it in found}):
+            print(f"    {crate}: {' '.join(sorted(name for where, name in found if where == crate))}")
 
 
 if __name__ == "__main__":
