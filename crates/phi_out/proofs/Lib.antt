@@ -1,0 +1,9 @@
+pub mod Heads
+pub mod Placing
+pub mod Steps
+pub mod Sums
+pub mod Weights
+pub mod Formed
+pub mod Law
+pub mod Making
+pub mod Blocks
