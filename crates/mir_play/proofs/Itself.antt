@@ -78,7 +78,7 @@ module _ (f : MFunction) where
 
   by_rest : (s s' : State) → Agree all s s' → s'.block ≡ s.block → (r : List MInst) → Fol (step_at f s r) (step_at f s' r)
   by_rest s s' h same [] = breaks refl refl
-  by_rest s s' h same (i ∷ r) = in_step f f refl all Same (λ x. 0) s s' r r h (same, refl) 0 i (all_alive (reads i)) (edge s s' h same r r)
+  by_rest s s' h same (i ∷ r) = in_step f f refl all Same (λ x. 0) s s' r r h (same, refl) 0 i (all_alive (reads i)) (λ w to c. edge s s' h same r r w to)
 
   steps : (s s' : State) → R s s' → Fol (step f s) (step f s')
   steps s s' h = subst (λ (r : List MInst). Fol (step_at f s s.rest) (step_at f s' r)) (sym h.stands.1) (by_rest s s' h.agree h.stands.0 s.rest)

@@ -5,7 +5,8 @@ use Rattle.ir_meaning.specs.Memory.{Memory, top, is_inside, bytes_at, with_bytes
 use Rattle.mir.specs.declared.code.MInst.{MInst}
 use Rattle.mir.specs.declared.code.MInst.TheVariants.{Param, Op, Imm, Const, Move, Load, Store, Phi, Call, TakeData, CopyBytes, FillBytes, Branch, Jump, Return, Trap}
 use Rattle.mir.specs.declared.code.MFunction.{MFunction}
-use Rattle.mir.specs.Code.{reads}
+use Rattle.std.specs.List.{Contains}
+use Rattle.mir.specs.Code.{reads, targets}
 use Rattle.walks.specs.Walk.{Bits, Reply, Does, Goes, Wants, Breaks, Step}
 use Rattle.walks.specs.Bits.{free, cut, constant, number}
 use Rattle.walks.specs.Bytes.{bits_of_bytes, bytes_of_bits}
@@ -61,11 +62,11 @@ module _ (f g : MFunction) (same_end : g.end ≡ f.end) (alive : ℕ → Bool) (
     divides w (Some o) None d d' k on = absurd k
     divides w (Some o) (Some o') d d' k on = divides_known w o o' d d' k on
 
-    branches : (w t e : ℕ) (o o' : Option Bool) → Keeps o o' → ((w to : ℕ) → Fol m (take_edge f s r w to) (take_edge g s' r' w to))
+    pub branches : (w t e : ℕ) (o o' : Option Bool) → Keeps o o' → Fol m (take_edge f s r w t) (take_edge g s' r' w t) → Fol m (take_edge f s r w e) (take_edge g s' r' w e)
         → Fol m (branch f s r w o t e) (branch g s' r' w o' t e)
-    branches w t e None o' k edge = breaks refl refl
-    branches w t e (Some true) o' k edge = subst (λ (z : Option Bool). Fol m (branch f s r w (Some true) t e) (branch g s' r' w z t e)) (sym (k true refl)) (edge w t)
-    branches w t e (Some false) o' k edge = subst (λ (z : Option Bool). Fol m (branch f s r w (Some false) t e) (branch g s' r' w z t e)) (sym (k false refl)) (edge w e)
+    branches w t e None o' k one other = breaks refl refl
+    branches w t e (Some true) o' k one other = subst (λ (z : Option Bool). Fol m (branch f s r w (Some true) t e) (branch g s' r' w z t e)) (sym (k true refl)) one
+    branches w t e (Some false) o' k one other = subst (λ (z : Option Bool). Fol m (branch f s r w (Some false) t e) (branch g s' r' w z t e)) (sym (k false refl)) other
 
     inside_by : (w : ℕ) (b : Bool) (d d' : Does State) → Fol m (plain f s r w d) (plain g s' r' w d')
         → Fol m (plain f s r w (if b then d else Breaks)) (plain g s' r' w (if b then d' else Breaks))
@@ -138,7 +139,8 @@ module _ (f g : MFunction) (same_end : g.end ≡ f.end) (alive : ℕ → Bool) (
         (moved_after w n after after' (q after refl))
 
     -- the same instruction in both; of edges it is told by the caller
-    pub in_step : (i : MInst) → ReadsAlive alive (reads i) → ((w to : ℕ) → Fol m (take_edge f s r w to) (take_edge g s' r' w to)) → Fol m (by_inst f s r i) (by_inst g s' r' i)
+    pub in_step : (i : MInst) → ReadsAlive alive (reads i) → ((w to : ℕ) → Contains (targets i) to → Fol m (take_edge f s r w to) (take_edge g s' r' w to))
+        → Fol m (by_inst f s r i) (by_inst g s' r' i)
     in_step (Param d n) read edge = gives_value 12 d _ _ (cut_mono 64 (slice_index_or s.args n free) (slice_index_or s'.args n free) (item_agrees s.args s'.args h.args n))
     in_step (Op op d a b) read edge =
         divides 20 (divisor op (s.regs b)) (divisor op (s'.regs b)) _ _ (divisor_kept op (s.regs b) (s'.regs b) (h.regs b read.1.0))
@@ -179,8 +181,9 @@ module _ (f g : MFunction) (same_end : g.end ≡ f.end) (alive : ℕ → Bool) (
         (keeps_number 64 _ _ (h.regs a read.0)) (keeps_number 8 _ _ (h.regs b read.1.0)) (keeps_number 64 _ _ (h.regs n read.1.1.0)))
     in_step (Branch op a b t e) read edge =
         branches 32 t e (taken op (s.regs a) (s.regs b)) (taken op (s'.regs a) (s'.regs b))
-        (taken_keeps (s.regs a) (s'.regs a) (s.regs b) (s'.regs b) (h.regs a read.0) (h.regs b read.1.0) op) edge
-    in_step (Jump t) read edge = edge 4 t
+        (taken_keeps (s.regs a) (s'.regs a) (s.regs b) (s'.regs b) (h.regs a read.0) (h.regs b read.1.0) op)
+        (edge 32 t (0, omega arith, refl)) (edge 32 e (1, omega arith, refl))
+    in_step (Jump t) read edge = edge 4 t (0, omega arith, refl)
     in_step (Return rs) read edge =
         gives (returned f s r rs) (returned g s' r' rs) (take s.base_length s.memory) (take s'.base_length s'.memory) refl here refl
         (returned_agrees rs read)

@@ -1,6 +1,9 @@
-mod Parallel
-mod Circles
-mod Picking
-mod Naming
-mod Edging
-mod Heading
+pub mod Heads
+pub mod Placing
+pub mod Steps
+pub mod Sums
+pub mod Weights
+pub mod Formed
+pub mod Law
+pub mod Making
+pub mod Blocks

@@ -1,2 +1,2 @@
-pub mod Moves
-pub mod Edges
+pub mod Lowered
+pub mod Lowering

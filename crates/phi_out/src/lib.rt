@@ -1,7 +1,4 @@
-//! Parallel copies of registers as moves one after another.
+//! The phis of a function of target code become moves on edges.
 #![tactic(auto)]
 
-pub mod edges;
-pub mod moves;
-#[cfg(test)]
-mod tests;
+pub mod lowering;

@@ -1,0 +1,6 @@
+mod Parallel
+mod Circles
+mod Picking
+mod Naming
+mod Edging
+mod Heading

@@ -1,6 +1,0 @@
-use Rattle.std.proofs.Common.{◌≡◌, drop}
-use Rattle.phi_out.specs.Edges.{is_written}
-use Rattle.phi_out.proofs.edges.is_written.Given as goal
-
-abbrev pub invariant-loop-copy : goal.invariant-loop-copy
-invariant-loop-copy l = is_written l.register l.copies ≡ is_written l.register (drop l.copy-index l.copies)
