@@ -94,7 +94,7 @@ none-taken (inst ∷ insts) h =
     let rest = none-taken insts (λ place i e. h (suc place) i e) in
     omega (arith, one, rest)
 
-index-get : (insts : List MInst) (k : ℕ) (inst : MInst) → k < length insts → slice_index_or insts k inst ≡ inst → slice_get insts k ≡ Some inst
+pub index-get : (insts : List MInst) (k : ℕ) (inst : MInst) → k < length insts → slice_index_or insts k inst ≡ inst → slice_get insts k ≡ Some inst
 index-get [] k inst lt e = absurd (let bad : ⊥ = omega (arith, lt) in bad)
 index-get (x ∷ xs) zero inst lt e = ap Some e
 index-get (x ∷ xs) (suc k) inst lt e = index-get xs k inst (omega (arith, lt)) e
@@ -118,6 +118,7 @@ module _ (m : Meaning) (f : MFunction) (well : IsWellFormed f) (no-phi : HasNoPh
     data_top = w.others 27 (λ z. cc) (λ z. cc) (λ z. cc) ∙ h.data_top;
     kept = λ x le. ap (λ (c : ℕ → ℕ). c x) w.control ∙ h.kept x le;
     counted = w.counted ∙ h.counted;
+    bytes = λ x. let e : q.machine.bytes x ≡ p.machine.bytes x = ap (λ (bytes : ℕ → ℕ). bytes x) w.bytes in let b = h.bytes x in omega (arith, e, b);
   }
 
   not-first : (t : ℕ) → 0 < t → (b : Bool) (P : Type 0) → (b ≡ true → t ≡ 0) → b ≡ false

@@ -46,7 +46,7 @@ module _ (f : MFunction) (places : Places) where
   rise-inst block low (Return rs) = rise-plain (inst_code f places (Return rs)) low
   rise-inst block low Trap = rise-plain (inst_code f places Trap) low
 
-  rise-insts : (block low : ℕ) (insts : List MInst) → Rise low low (insts_items f places block insts)
+  pub rise-insts : (block low : ℕ) (insts : List MInst) → Rise low low (insts_items f places block insts)
   rise-insts block low [] = omega arith
   rise-insts block low (inst ∷ insts) = rise-append (inst_items f places block inst) (insts_items f places block insts) low low low (rise-inst block low inst) (rise-insts block low insts)
 

@@ -11,3 +11,14 @@ pub mod Blocks
 pub mod Simple
 pub mod Few
 pub mod Labelled
+mod Known
+mod Data
+mod Keeping
+mod Accesses
+mod Loops
+mod Calls
+pub mod Taking
+mod Returning
+mod Entering
+mod Runs
+pub mod Whole

@@ -288,7 +288,7 @@ module _ (m : Meaning) (functions : m.functions ≤ 1024) (room : m.room ≤ 671
 
   -- ---- the code of operations, between places
 
-  held-some : (place : Place) → IsPlace slots place → number_of (held_in T0 (Some place)) ≢ 0
+  pub held-some : (place : Place) → IsPlace slots place → number_of (held_in T0 (Some place)) ≢ 0
   held-some (Saved k) is = saved-some k is
   held-some (Slot j) is = λ z. cc
 
@@ -338,8 +338,8 @@ module _ (m : Meaning) (functions : m.functions ≤ 1024) (room : m.room ≤ 671
         writes = writes-behind low slots p x.point y.point d v quiet y.writes;
       }
 
-  pub const-done : (d : Place) (n : ℕ) (p : Point) → IsPlace slots d → n < 2 ^ 64 → p.machine.regs.x 2 ≡ low → Stands words p.machine.regs.pc (number_code (Some d) n) → Wrote (number_code (Some d) n) d n p
-  const-done d n p is lt sp st = made (const_code 3 (held_in T0 (Some d)) n) d n p is lt sp (const-puts m functions words lowb highb p (held_in T0 (Some d)) n (held-some d is) lt) st
+  pub const-done : (d : Place) (n : ℕ) (p : Point) → IsPlace slots d → p.machine.regs.x 2 ≡ low → Stands words p.machine.regs.pc (number_code (Some d) n) → Wrote (number_code (Some d) n) d (n % 2 ^ 64) p
+  const-done d n p is sp st = made (const_code 3 (held_in T0 (Some d)) (n % 2 ^ 64)) d (n % 2 ^ 64) p is (omega arith) sp (const-puts m functions words lowb highb p (held_in T0 (Some d)) (n % 2 ^ 64) (held-some d is) (omega arith)) st
 
   -- ---- moves
 
@@ -351,18 +351,29 @@ module _ (m : Meaning) (functions : m.functions ≤ 1024) (room : m.room ≤ 671
       (ap (wrote p rd) (ap (λ (w : ℕ). (w + 0) % 2 ^ 64) (read-is p.machine.regs (saved_reg k) (saved-some k is)) ∙ (let same : (p.machine.regs.x (saved_number k) + 0) % 2 ^ 64 ≡ p.machine.regs.x (saved_number k) = omega (arith, lt) in same)))
   place-loaded rd (Slot j) p nz nsp is sp lt = loads-at m functions room words lowb highb low frame bottom top p rd (slot_place j) nz (sp-apart (number_of rd) nsp) sp (omega (arith, is, inside))
 
-  -- what a register has is put to a place
+  -- what a register has is put to a place, and t0 is as it was
+  pub record Stored (code : List Instr) (place : Place) (v : ℕ) (p : Point) : Type 0 where
+    pub wrote : Wrote code place v p
+    pub t0 : wrote.point.machine.regs.x 5 ≡ p.machine.regs.x 5
+
   pub place-stored : (rs : Reg) (place : Place) (v : ℕ) (p : Point) → number_of rs ≢ 31 → IsPlace slots place → p.machine.regs.x 2 ≡ low → read p.machine.regs rs ≡ v → v < 2 ^ 64
-      → Stands words p.machine.regs.pc (store_place rs (Some place)) → Wrote (store_place rs (Some place)) place v p
+      → Stands words p.machine.regs.pc (store_place rs (Some place)) → Stored (store_place rs (Some place)) place v p
   place-stored rs (Saved k) v p other is sp value lt st =
       let code = rv.Imm Addi (saved_reg k) rs (pos 0) ∷ [] in
       let brings : Brings p (saved_reg k) v code =
       puts-one m functions words lowb highb p (saved_reg k) v (rv.Imm Addi (saved_reg k) rs (pos 0)) (saved-some k is) refl
       (ap (wrote p (saved_reg k)) (ap (λ (w : ℕ). (w + 0) % 2 ^ 64) value ∙ (let same : (v + 0) % 2 ^ 64 ≡ v = omega (arith, lt) in same))) in
-      record { point = put p (saved_reg k) v 1; on = on-puts p (saved_reg k) v code brings st; writes = saved-put k v 1 p is }
+      let low' = is-saved k is in let few = low'.low in
+      record {
+        wrote = record { point = put p (saved_reg k) v 1; on = on-puts p (saved_reg k) v code brings st; writes = saved-put k v 1 p is };
+        t0 = other-register p.machine.regs.x (saved_number k) 5 v (λ z. let bad : ⊥ = omega (arith, z, few) in bad);
+      }
   place-stored rs (Slot j) v p other is sp value lt st =
       let x = saves-at m functions room words lowb highb low frame bottom top p rs (slot_place j) other sp (omega (arith, is, inside)) st in
-      record { point = x.point; on = record { run = x.run; pc = x.pc }; writes = slot-stored j v p x.point refl is lt (subst (Alters p x.point (low + slot_place j)) value x.alters) }
+      record {
+        wrote = record { point = x.point; on = record { run = x.run; pc = x.pc }; writes = slot-stored j v p x.point refl is lt (subst (Alters p x.point (low + slot_place j)) value x.alters) };
+        t0 = x.alters.others 5 (λ z. cc);
+      }
 
   saved-not-sp : (k : ℕ) → k < 11 → number_of (saved_reg k) ≢ 2
   saved-not-sp k is = let x = is-saved k is in let l = x.low in λ z. let bad : ⊥ = omega (arith, z, l) in bad

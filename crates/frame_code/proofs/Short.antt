@@ -1,5 +1,5 @@
 -- How many instructions the code of operations has.
-use Rattle.std.proofs.Common.{◌≡◌, refl, sym, ap, ◌∙◌, ℕ, zero, suc, ◌+◌, ◌*◌, ◌≤◌, List, [], ◌∷◌, ◌++◌, length, Option, Some, None, arith}
+use Rattle.std.proofs.Common.{◌≡◌, refl, sym, ap, ◌∙◌, ℕ, zero, suc, ◌+◌, ◌*◌, ◌%◌, ◌^◌, ◌≤◌, List, [], ◌∷◌, ◌++◌, length, Option, Some, None, arith}
 use Rattle.std.specs.Prelude.{ℤ, pos}
 use Rattle.std.proofs.lemmas.List.{length-append}
 use Rattle.rv_core.specs.declared.reg.Reg.{Reg}
@@ -54,8 +54,8 @@ imm-short op d a n =
 
 pub number-short : (d : Option Place) (n : ℕ) → length (number_code d n) ≤ 11
 number-short d n =
-    let all = length-append (const_code 3 (held_in T0 d) n) (keep T0 d) in
-    let x = const-short 3 (held_in T0 d) n in let z = keep-short T0 d in
+    let all = length-append (const_code 3 (held_in T0 d) (n % 2 ^ 64)) (keep T0 d) in
+    let x = const-short 3 (held_in T0 d) (n % 2 ^ 64) in let z = keep-short T0 d in
     omega (arith, all, x, z)
 
 pub move-short : (d a : Option Place) → length (move_code d a) ≤ 6

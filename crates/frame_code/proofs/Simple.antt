@@ -31,7 +31,7 @@ module _ (m : Meaning) (f : MFunction) (places : Places) (a : Invocation) (s : M
   simple-step now p (Imm op d b n) rest h ahead is =
       imm-step m there.functions there.room f places can.intervals can.covers can.fits a s there.wide there.high words there.low_base there.high_base labels now p op d b n rest h ahead
   simple-step now p (Const d n) rest h ahead is =
-      const-step m there.functions there.room f places can.intervals can.covers can.fits a s there.wide there.high words there.low_base there.high_base labels now p d n rest is h ahead
+      const-step m there.functions there.room f places can.intervals can.covers can.fits a s there.wide there.high words there.low_base there.high_base labels now p d n rest h ahead
   simple-step now p (Move d b) rest h ahead is =
       move-step m there.functions there.room f places can.intervals can.covers can.fits a s there.wide there.high words there.low_base there.high_base labels now p d b rest h ahead
   simple-step now p (Branch op b c t e) rest h ahead is =

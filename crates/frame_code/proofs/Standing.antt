@@ -66,6 +66,7 @@ module _ (m : Meaning) (f : MFunction) (places : Places) (intervals : Intervals)
     data_top = w.others 27 (λ z. cc) (λ z. cc) (λ z. cc) (not-own to 27 is (inr (omega arith))) ∙ h.data_top;
     kept = λ x le. let e = sum in w.above x (omega (arith, e, le)) ∙ h.kept x le;
     counted = w.counted ∙ h.counted;
+    bytes = λ x. let e : q.machine.bytes x ≡ p.machine.bytes x = ap (λ (bytes : ℕ → ℕ). bytes x) w.bytes in let b = h.bytes x in omega (arith, e, b);
   }
     where
       unused : (to : Place) → IsPlace slots to → ((k : ℕ) → to ≡ Saved k → uses places k ≡ true) → (k : ℕ) → k < 11 → uses places k ≡ false → IsOwn to (saved_number k) → ⊥
@@ -80,6 +81,27 @@ module _ (m : Meaning) (f : MFunction) (places : Places) (intervals : Intervals)
   later : (inst x : MInst) (rest : List MInst) → Contains rest x → Contains (inst ∷ rest) x
   later inst x rest h = let lt = h.1 in (suc h.0, omega (arith, lt), h.2)
 
+  -- behind a write of one register's place each register that is read from there on has its number
+  pub held-write : (now : State) (p q : Point) (inst : MInst) (place d v : ℕ) (to : Place) (value : Bits) → inst_at f now.block place ≡ Some inst → ends_block inst ≡ false
+      → writes inst ≡ d ∷ [] → place_of places d ≡ Some to → IsPlace slots to → IsHeld value v → Writes low slots p q to v → HoldsRead m f places a s now.block place now p
+      → (r : ℕ) → ReadFrom f r now.block (place + 1) → IsHeld (write now.regs d value r) (number_at low q.machine (place_of places r))
+  held-write now p q inst place d v to value at ends one e-d is holds w held r live = by_test (r == d) refl
+    where
+      writes-d : Contains (writes inst) d
+      writes-d = subst (λ (ds : List ℕ). Contains ds d) (sym one) (0, omega arith, refl)
+
+      by_test : (b : Bool) → (r == d) ≡ b → IsHeld (if b then value else now.regs r) (number_at low q.machine (place_of places r))
+      by_test true e =
+          let same : r ≡ d = eq-true r d e in
+          subst (IsHeld value) (sym (ap (λ (x : ℕ). number_at low q.machine (place_of places x)) same ∙ ap (number_at low q.machine) e-d ∙ w.at)) holds
+      by_test false e =
+          let ne : r ≢ d = λ same. let bad : true ≡ false = sym (self-eq d) ∙ ap (λ (x : ℕ). x == d) (sym same) ∙ e in cc in
+          let x = live-placed f places intervals covers fits r now.block (place + 1) live in
+          let apart = place-apart f places intervals covers fits d r now.block place inst to x.0 at writes-d ends live ne e-d x.1 in
+          let same : number_at low q.machine (place_of places r) ≡ number_at low p.machine (place_of places r) =
+          ap (number_at low q.machine) x.1 ∙ elsewhere low slots p q to x.0 v is x.2 apart w ∙ ap (number_at low p.machine) (sym x.1) in
+          subst (IsHeld (now.regs r)) (sym same) (held r (goes_on inst at (λ in'. ne (only-item d r (subst (λ (ds : List ℕ). Contains ds r) one in'))) (next inst at ends) live))
+
   -- an instruction that writes one register, whose place now has a number that refines what it writes
   pub stands-write : (now : State) (p q : Point) (inst : MInst) (rest : List MInst) (d v : ℕ) (to : Place) (value : Bits) → now.rest ≡ inst ∷ rest → ends_block inst ≡ false
       → writes inst ≡ d ∷ [] → taken_by inst ≡ 0 → place_of places d ≡ Some to → IsPlace slots to → IsHeld value v → Writes low slots p q to v
@@ -87,7 +109,7 @@ module _ (m : Meaning) (f : MFunction) (places : Places) (intervals : Intervals)
   stands-write now p q inst rest d v to value left ends one none e-d is holds w h = record {
     place = h.place + 1;
     rests = at.1;
-    held = λ r live. by_test r live (r == d) refl;
+    held = held-write now p q inst h.place d v to value at.0 ends one e-d is holds w h.held;
     arguments = λ e n lt in'. subst (IsHeld (slice_index_or now.args n free)) (sym (w.others (10 + n) (λ z. let bad : ⊥ = omega (arith, z) in bad) (λ z. let bad : ⊥ = omega (arith, z) in bad) (λ z. let bad : ⊥ = omega (arith, z, lt) in bad) (argument to is n lt)))
         (h.arguments e n lt (subst (λ (insts : List MInst). Contains insts (Param e n)) (sym left) (later inst (Param e n) rest in')));
     keeps = keeps-write (length now.memory) v p q to is (λ k same. uses-place places d k (e-d ∙ ap Some same)) w h.keeps;
@@ -99,9 +121,6 @@ module _ (m : Meaning) (f : MFunction) (places : Places) (intervals : Intervals)
       at : (inst_at f now.block h.place ≡ Some inst) × (drop (h.place + 1) (block_of f now.block) ≡ rest)
       at = dropped (block_of f now.block) h.place inst rest (h.rests ∙ left)
 
-      writes-d : Contains (writes inst) d
-      writes-d = subst (λ (ds : List ℕ). Contains ds d) (sym one) (0, omega arith, refl)
-
       argument : (to : Place) → IsPlace slots to → (n : ℕ) → n < 8 → IsOwn to (10 + n) → ⊥
       argument (Slot i) is n lt own = own
       argument (Saved k) is n lt own = let x = is-saved k is in by_side x.not-argument
@@ -109,15 +128,3 @@ module _ (m : Meaning) (f : MFunction) (places : Places) (intervals : Intervals)
           by_side : (saved_number k < 10) ⊎ (18 ≤ saved_number k) → ⊥
           by_side (inl l) = omega (arith, own, l)
           by_side (inr g) = omega (arith, own, g, lt)
-
-      by_test : (r : ℕ) → ReadFrom f r now.block (h.place + 1) → (b : Bool) → (r == d) ≡ b → IsHeld (if b then value else now.regs r) (number_at low q.machine (place_of places r))
-      by_test r live true e =
-          let same : r ≡ d = eq-true r d e in
-          subst (IsHeld value) (sym (ap (λ (x : ℕ). number_at low q.machine (place_of places x)) same ∙ ap (number_at low q.machine) e-d ∙ w.at)) holds
-      by_test r live false e =
-          let ne : r ≢ d = λ same. let bad : true ≡ false = sym (self-eq d) ∙ ap (λ (x : ℕ). x == d) (sym same) ∙ e in cc in
-          let x = live-placed f places intervals covers fits r now.block (h.place + 1) live in
-          let apart = place-apart f places intervals covers fits d r now.block h.place inst to x.0 at.0 writes-d ends live ne e-d x.1 in
-          let same : number_at low q.machine (place_of places r) ≡ number_at low p.machine (place_of places r) =
-          ap (number_at low q.machine) x.1 ∙ elsewhere low slots p q to x.0 v is x.2 apart w ∙ ap (number_at low p.machine) (sym x.1) in
-          subst (IsHeld (now.regs r)) (sym same) (h.held r (goes_on inst at.0 (λ in'. ne (only-item d r (subst (λ (ds : List ℕ). Contains ds r) one in'))) (next inst at.0 ends) live))

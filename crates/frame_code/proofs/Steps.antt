@@ -42,16 +42,9 @@ use Rattle.frame_code.specs.Code.{taken_by, inst_items, insts_items, blocks_item
 use Rattle.frame_code.specs.Stands.{number_at, Stands, Here, left}
 use Rattle.frame_code.proofs.Operands.{Wrote, Writes, op-done, imm-done, const-done, move-done, place-stored}
 use Rattle.frame_code.proofs.Placed.{dropped, first-item, second-item, live-placed, written-placed, IsPlaced}
+use Rattle.frame_code.proofs.Known.{cut-held, constant-held}
 use Rattle.frame_code.proofs.Standing.{stands-write}
 use Rattle.frame_code.proofs.Short.{op-short, imm-short, number-short, move-short, store-place-short}
-
--- what is known of a register's bits is known of its low 64
-cut-held : (bits : Bits) (n : ℕ) → IsHeld bits n → IsHeld (cut 64 bits) n
-cut-held bits n h = record { low = h.low; bits = λ i bit e. by_test i bit (nat_lt i 64) refl e }
-  where
-    by_test : (i : ℕ) (bit : Bool) (b : Bool) → nat_lt i 64 ≡ b → (if b then bits i else None) ≡ Some bit → constant 64 n i ≡ Some bit
-    by_test i bit true e is = h.bits i bit is
-    by_test i bit false e is = absurd (let bad : None ≡ Some bit = is in cc)
 
 module _ (m : Meaning) (functions : m.functions ≤ 1024) (room : m.room ≤ 67108864) (f : MFunction) (places : Places) (intervals : Intervals) (covers : Covers f intervals) (fits : Fits intervals (slots_of f.values) places)
     (a : Invocation) (s : Machine) (wide : control_base + frame_of f.values ≤ a.sp) (high : a.sp ≤ control_end) (words : Words) (lowb : code_base + 4 ≤ words.base) (highb : words.base + 4 * length words.words ≤ code_limit)
@@ -202,15 +195,15 @@ module _ (m : Meaning) (functions : m.functions ≤ 1024) (room : m.room ≤ 671
       (let short = imm-short op (Some to.0) (Some first.place) n in omega (arith, short))
       (imm-done m functions room words lowb highb low fr slots bottom top inside op to.0 first.place n p to.2 first.is h.stands.keeps.sp first.held.low))
 
-  pub const-step : (now : State) (p : Point) (d n : ℕ) (rest : List MInst) → n < 2 ^ 64 → At now p → now.rest ≡ Const d n ∷ rest → Does_it (left f now) p now (step f now)
-  const-step now p d n rest lt h ahead =
+  pub const-step : (now : State) (p : Point) (d n : ℕ) (rest : List MInst) → At now p → now.rest ≡ Const d n ∷ rest → Does_it (left f now) p now (step f now)
+  const-step now p d n rest h ahead =
       let inst = Const d n in
       let to = result now p inst rest d h ahead (first-item d []) in
       by-inst now p inst rest ahead
-      (onward now p inst rest (number_code (Some to.0) n) d n 12 to.0 (constant 64 n) h ahead (ap plain (ap (λ (o : Option Place). number_code o n) to.1)) refl refl refl to.1 to.2
-      (record { low = lt; bits = λ i bit e. e })
+      (onward now p inst rest (number_code (Some to.0) n) d (n % 2 ^ 64) 12 to.0 (constant 64 n) h ahead (ap plain (ap (λ (o : Option Place). number_code o n) to.1)) refl refl refl to.1 to.2
+      (constant-held n)
       (let short = number-short (Some to.0) n in omega (arith, short))
-      (const-done m functions room words lowb highb low fr slots bottom top inside to.0 n p to.2 lt h.stands.keeps.sp))
+      (const-done m functions room words lowb highb low fr slots bottom top inside to.0 n p to.2 h.stands.keeps.sp))
 
   pub move-step : (now : State) (p : Point) (d b : ℕ) (rest : List MInst) → At now p → now.rest ≡ Move d b ∷ rest → Does_it (left f now) p now (step f now)
   move-step now p d b rest h ahead =
@@ -239,4 +232,4 @@ module _ (m : Meaning) (functions : m.functions ≤ 1024) (room : m.room ≤ 671
       (onward now p inst rest (store_place (argument_reg n) (Some to.0)) d v 12 to.0 (cut 64 (slice_index_or now.args n free)) h ahead
       (ap plain (ap (λ (o : Option Place). store_place (argument_reg n) o) to.1)) refl refl refl to.1 to.2 (cut-held (slice_index_or now.args n free) v held)
       (let short = store-place-short (argument_reg n) (Some to.0) in omega (arith, short))
-      (place-stored m functions room words lowb highb low fr slots bottom top inside (argument_reg n) to.0 v p (λ z. let bad : ⊥ = omega (arith, z, number, lt) in bad) to.2 h.stands.keeps.sp value-is held.low))
+      (λ st. (place-stored m functions room words lowb highb low fr slots bottom top inside (argument_reg n) to.0 v p (λ z. let bad : ⊥ = omega (arith, z, number, lt) in bad) to.2 h.stands.keeps.sp value-is held.low st).wrote))

@@ -1,5 +1,5 @@
 -- The code of a function of target code whose registers have places, as instructions with labels. An operand that stands in a slot goes through t0 or t1, a result through t0.
-use Rattle.std.specs.Prelude.{ℕ, ◌+◌, ◌==◌, nat_le, ℤ, pos, List, [], ◌∷◌, ◌++◌, Option, Some, None, if◌then◌else◌}
+use Rattle.std.specs.Prelude.{ℕ, ◌+◌, ◌%◌, ◌^◌, ◌==◌, nat_le, ℤ, pos, List, [], ◌∷◌, ◌++◌, Option, Some, None, if◌then◌else◌}
 use Rattle.rv_core.specs.declared.reg.Reg.{Reg}
 use Rattle.rv_core.specs.declared.reg.Reg.TheVariants.{X0, T0, T1, T2, A0, S11}
 use Rattle.rv_core.specs.declared.instr.BranchOp.TheVariants.{Bgeu}
@@ -65,8 +65,9 @@ op_code op d a b = fetch T0 a ++ (fetch T1 b ++ rv.Op op (held_in T0 d) (held_in
 abbrev pub imm_code : ImmOp → Option Place → Option Place → ℤ → List Instr
 imm_code op d a n = fetch T0 a ++ rv.Imm op (held_in T0 d) (held_in T0 a) n ∷ keep T0 d
 
+-- the number that 64 bits hold of one
 abbrev pub number_code : Option Place → ℕ → List Instr
-number_code d n = const_code 3 (held_in T0 d) n ++ keep T0 d
+number_code d n = const_code 3 (held_in T0 d) (n % 2 ^ 64) ++ keep T0 d
 
 -- a move: a place that is a register is written at once
 abbrev pub move_code : Option Place → Option Place → List Instr

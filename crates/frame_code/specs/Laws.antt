@@ -1,10 +1,15 @@
 -- What holds of words that are the code of a function of target code.
-use Rattle.std.specs.Prelude.{◌≡◌, ℕ, ◌+◌, ◌*◌, ◌%◌, ◌<◌, ◌≤◌, ◌^◌, List, ◌∷◌, ◌++◌, length, drop}
+use Rattle.std.specs.Prelude.{◌≡◌, ℕ, ◌+◌, ◌*◌, ◌%◌, ◌<◌, ◌≤◌, ◌^◌, List, ◌∷◌, ◌++◌, length, drop, Some}
+use Rattle.ir_core.specs.Program.{Program}
+use Rattle.ir_core.specs.declared.program.Function.{Function}
+use Rattle.ir_meaning.specs.Step.{function_at}
+use Rattle.ir_meaning.specs.Meaning.{meaning}
+use Rattle.ir_meaning.specs.Typed.{IsTyped}
 use Rattle.ir_meaning.specs.Plays.{Meaning, Invocation}
 use Rattle.ir_meaning.specs.Ranges.{IsInvocation}
 use Rattle.rv_play.specs.Machine.{Machine, data_end, control_base, control_end, code_base, code_limit}
 use Rattle.rv_play.specs.CodePlay.{Place as Words, Point, CodeReply, code_run, place_of as words_at}
-use Rattle.rv_play.specs.Good.{IsBase, Enters}
+use Rattle.rv_play.specs.Good.{Good, IsBase, Enters}
 use Rattle.walks.specs.Walk.{Goes}
 use Rattle.mir.specs.declared.code.MInst.{MInst}
 use Rattle.mir.specs.declared.code.MInst.TheVariants.{Param, Op, Imm, Const, Move, Branch, Jump}
@@ -19,7 +24,7 @@ use Rattle.mir.specs.WellFormed.{IsWellFormed, HasNoPhi}
 use Rattle.mir.specs.Live.{Covers}
 use Rattle.mir.specs.Places.{Fits}
 use Rattle.mir_play.specs.Play.{State, step, walk}
-use Rattle.mir_play.specs.Refines.{static_weight}
+use Rattle.mir_play.specs.Refines.{static_weight, IsCompiled}
 use Rattle.quick_code.specs.Labels.{StandsAs, StandEverywhere}
 use Rattle.good_code.specs.Runs.{RunsAs}
 use Rattle.frame_code.specs.Frame.{slots_of}
@@ -69,7 +74,7 @@ abbrev pub IsSimple : MInst → Type 0
 IsSimple (Param d n) = n < 8
 IsSimple (Op op d a b) = Unit {0}
 IsSimple (Imm op d a n) = Unit {0}
-IsSimple (Const d n) = n < 2 ^ 64
+IsSimple (Const d n) = Unit {0}
 IsSimple (Move d a) = Unit {0}
 IsSimple (Branch op a b t e) = Unit {0}
 IsSimple (Jump t) = Unit {0}
@@ -100,3 +105,11 @@ abbrev pub CodeRuns : Type 0
 CodeRuns =
     (m : Meaning) (f : MFunction) (places : Places) (words : List ℕ) → m.functions ≤ 1024 → m.room ≤ 67108864 → IsOf m f → CanLayOut f places
     → StandEverywhere m words (function_items f places) → RunsAs m f.symbol words (play_of (walk f))
+
+-- Words that the assembler made of the code, and that run as it does, are a good version of the function of a typed module with at most eight parameters that it is compiled from.
+abbrev pub LaidOutIsGood : Type 0
+LaidOutIsGood =
+    (program : Program) (function : Function) (f : MFunction) (places : Places) (words : List ℕ)
+    → IsTyped program → function_at program f.symbol ≡ Some function → length function.params ≤ 8 → IsCompiled program f.symbol f
+    → CanLayOut f places → IsLaidOut f places words → (length words ≤ 2 ^ 22 → AssemblyRuns (code_of f places) words)
+    → Good (meaning program) f.symbol words

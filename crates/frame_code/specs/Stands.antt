@@ -10,7 +10,7 @@ use Rattle.ir_meaning.specs.Memory.{top}
 use Rattle.ir_meaning.specs.Plays.{Meaning, Invocation}
 use Rattle.rv_play.specs.Machine.{Machine, data_base, data_end}
 use Rattle.rv_play.specs.CodePlay.{Place as Words, Point}
-use Rattle.rv_play.specs.Good.{RefinesMemory, KeepsControl}
+use Rattle.rv_play.specs.Good.{IsBytes, RefinesMemory, KeepsControl}
 use Rattle.walks.specs.Bits.{free}
 use Rattle.walks.specs.Face.{frame_of}
 use Rattle.mir.specs.declared.code.MInst.{MInst}
@@ -44,7 +44,7 @@ module _ (m : Meaning) (f : MFunction) (places : Places) (a : Invocation) (s : M
   low = a.sp - frame_of f.values
 
   -- What an activation, entered with the machine s, keeps, whatever it has read and written: sp and its frame, in which ra and the s registers in use are saved, the other
-  -- s registers and the control stack above the frame as they were, data memory with its top in s11, and its one entry counted.
+  -- s registers and the control stack above the frame as they were, data memory with its top in s11, and its one entry counted. Each of the machine's bytes is below 256.
   pub record Keeps (length_taken : ℕ) (p : Point) : Type 0 where
     pub sp : p.machine.regs.x 2 ≡ low
     pub ra : load_bytes p.machine.control (low + ra_offset (frame_of f.values)) 8 ≡ read s.regs Ra
@@ -53,6 +53,7 @@ module _ (m : Meaning) (f : MFunction) (places : Places) (a : Invocation) (s : M
     pub data_top : p.machine.regs.x 27 ≡ data_base + length_taken
     pub kept : KeepsControl s a.sp p.machine
     pub counted : p.counted ≡ a.symbol ∷ []
+    pub bytes : IsBytes p.machine.bytes
 
   -- each register that is read from a place of a block on before it is written has, where it stands, a number that refines its bits
   abbrev pub HoldsRead : ℕ → ℕ → State → Point → Type 0

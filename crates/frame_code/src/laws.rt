@@ -1,5 +1,5 @@
 // What holds of the code of target functions: each function's contract is a law, and its body does nothing.
-ghost use Rattle.frame_code.specs.Laws.{FewWords, LaidOutStands, CodeStandsLaidOut, SimpleStepsRun};
+ghost use Rattle.frame_code.specs.Laws.{FewWords, LaidOutStands, CodeStandsLaidOut, SimpleStepsRun, CodeRuns, LaidOutIsGood};
 ghost use Rattle.frame_code.specs.Samples.{TwiceIsLaidOut};
 
 /// The function that adds its parameter to itself, with both of its registers in s0, is these eighteen words.
@@ -25,4 +25,14 @@ pub fn blocks_stand_at_labels()
 /// The code of operations, numbers, moves, jumps and branches does what their steps do, within their weight.
 pub fn simple_steps_run()
     ensures { SimpleStepsRun }
+{}
+
+/// Words that stand as the code of a function run as the function does: they come to each call, return and want of stack within its weight, and have ended only where it ends.
+pub fn laid_out_code_runs()
+    ensures { CodeRuns }
+{}
+
+/// Words of a function that is compiled from one of a typed module are a good version of that.
+pub fn laid_out_code_is_good()
+    ensures { LaidOutIsGood }
 {}
