@@ -1,14 +1,19 @@
 -- The calling function of target code refines that of the module, so its words are good.
-use Rattle.std.proofs.Common.{Some, ◌≡◌, refl, sym, ap, subst, ◌∙◌, ℕ, ◌+◌, ◌-◌, List, [], ◌∷◌, ◌++◌, length, replicate, Bool, true, false, None, arith}
-use Rattle.std.specs.Prelude.{nat_lt, take, slice_index_or, if◌then◌else◌}
+use Rattle.std.proofs.Common.{Some, ◌≡◌, refl, sym, ap, subst, ◌∙◌, ℕ, ◌+◌, ◌-◌, zero, suc, List, [], ◌∷◌, ◌++◌, length, replicate, Bool, true, false, None, arith}
+use Rattle.std.specs.Prelude.{nat_lt, take, slice_get, slice_index_or, if◌then◌else◌}
 use Rattle.ir_meaning.specs.declared.activation.Activation.{Activation}
 use Rattle.ir_meaning.specs.Value.{Value}
 use Rattle.ir_meaning.specs.Memory.{Memory}
-use Rattle.ir_meaning.specs.Step.{stack_start}
+use Rattle.ir_core.specs.declared.types.Ty.{Ty}
+use Rattle.ir_core.specs.declared.types.Ty.TheVariants.{Void, Int}
+use Rattle.ir_core.specs.declared.code.Operand.TheVariants.{Value as Local}
+use Rattle.ir_core.specs.declared.code.Op.TheVariants.{Call as IrCall, Ret}
+use Rattle.ir_core.specs.declared.code.Inst.{Inst}
+use Rattle.ir_core.specs.declared.program.Function.{Function}
+use Rattle.ir_meaning.specs.Step.{stack_start, function_at, insts_at}
 use Rattle.ir_meaning.specs.Walk as ir
 use Rattle.ir_meaning.specs.Meaning.{meaning}
-use Rattle.ir_meaning.specs.Typed.{IsTyped}
-use Rattle.ir_meaning.proofs.SmallTyped.{small-typed}
+use Rattle.ir_meaning.specs.Typed.{IsTyped, IsTypedFunction, IsOp, IsValueType}
 use Rattle.rv_play.specs.Machine.{data_end}
 use Rattle.walks.specs.Walk.{Bits, Reply, Entry, Does, Goes, Wants, play_of}
 use Rattle.walks.specs.Refines.{RefinesBits, AllRefine, RefinesMemory, RefinesEntry, RefinesPlay}
@@ -23,7 +28,7 @@ use Rattle.good_code.proofs.Narrow.{typed_is_narrow}
 use Rattle.mir.specs.declared.code.MInst.TheVariants.{Param}
 use Rattle.mir_play.specs.Play.{State, first, enter, step, walk}
 use Rattle.walks.specs.Registers.{Registers as MRegisters, unwritten, write}
-use Rattle.good_samples.specs.Calling.{calling, calling_program, words, CallingIsCompiled, CallingIsGood, f}
+use Rattle.good_samples.specs.Calling.{calling, calling_program, words, CallingIsCompiled, CallingIsGood, f, g, function_of}
 use Rattle.good_samples.proofs.Known.{value_refines}
 use Rattle.good_samples.proofs.Calling.{calls_with, leaves_with, with_left, calling_runs}
 
@@ -123,8 +128,45 @@ refines = simulated limit (function_walk calling_program 0) (walk calling) Stand
 
 -- ---- the words are good
 
+abbrev Every_inst : Function → List Inst → Type 0
+Every_inst function [] = Unit {0}
+Every_inst function (i ∷ insts) = IsOp calling_program function i.gives i.op × Every_inst function insts
+
+one_param : (i : ℕ) (ty : Ty) → slice_get (Int 64 ∷ []) i ≡ Some ty → IsValueType ty
+one_param zero ty e = let same : Int 64 ≡ ty = cc in subst IsValueType same (omega arith, omega arith)
+one_param (suc i) ty e = absurd (let bad : ⊥ = cc in bad)
+
+insts_typed : (function : Function) (insts : List Inst) → Every_inst function insts → (place : ℕ) (inst : Inst) → slice_get insts place ≡ Some inst
+    → IsOp calling_program function inst.gives inst.op
+insts_typed function [] h place inst e = absurd (let bad : ⊥ = cc in bad)
+insts_typed function (i ∷ insts) h zero inst e = let same : i ≡ inst = cc in subst (λ (j : Inst). IsOp calling_program function j.gives j.op) same h.0
+insts_typed function (i ∷ insts) h (suc place) inst e = insts_typed function insts h.1 place inst e
+
+function_typed : (insts : List Inst) → Every_inst (function_of insts) insts → IsTypedFunction calling_program (function_of insts)
+function_typed insts h = record {
+  params = one_param;
+  ret = (omega arith, omega arith);
+  insts = by_block;
+}
+  where
+    by_block : (block place : ℕ) (inst : Inst) → slice_get (insts_at (function_of insts) block) place ≡ Some inst → IsOp calling_program (function_of insts) inst.gives inst.op
+    by_block zero place inst e = insts_typed (function_of insts) insts h place inst e
+    by_block (suc block) place inst e = absurd (let bad : ⊥ = cc in bad)
+
 typed : IsTyped calling_program
-typed = small-typed calling_program (record { small = refl; room = (omega arith, omega arith, refl) })
+typed = record { functions = omega arith; room = omega arith; typed = by_symbol }
+  where
+    by_symbol : (symbol : ℕ) (function : Function) → function_at calling_program symbol ≡ Some function → IsTypedFunction calling_program function
+    by_symbol zero function e =
+        let same : f ≡ function = cc in
+        subst (IsTypedFunction calling_program) same
+        (function_typed (record { gives = Int 64; op = IrCall 1 ((Int 64, Local 0) ∷ []) } ∷ record { gives = Void; op = Ret (Some (Local 1)) } ∷ [])
+        (((refl, refl), (refl, tt)), ((refl, ((omega arith, omega arith), refl)), tt)))
+    by_symbol (suc zero) function e =
+        let same : g ≡ function = cc in
+        subst (IsTypedFunction calling_program) same
+        (function_typed (record { gives = Void; op = Ret (Some (Local 0)) } ∷ []) ((refl, ((omega arith, omega arith), refl)), tt))
+    by_symbol (suc (suc symbol)) function e = absurd (let bad : ⊥ = cc in bad)
 
 pub calling_is_compiled : CallingIsCompiled
 calling_is_compiled = (f, refl, record { symbol = refl; values = refl; end' = refl; static = omega arith; play = refines })
