@@ -3,3 +3,14 @@ pub mod Moves
 pub mod Extends
 pub mod Results
 pub mod Samples
+pub mod Loads
+pub mod Steps
+pub mod Computes
+pub mod Bytes
+pub mod Touches
+pub mod Calls
+pub mod Copies
+pub mod Choices
+pub mod Absolutes
+pub mod Entry
+pub mod Edges
