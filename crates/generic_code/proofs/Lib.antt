@@ -11,6 +11,7 @@ pub mod Touches
 pub mod Calls
 pub mod Copies
 pub mod Choices
+pub mod Runs
 pub mod Absolutes
 pub mod Entry
 pub mod Edges
