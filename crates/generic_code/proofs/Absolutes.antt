@@ -56,7 +56,7 @@ use Rattle.generic_code.proofs.Computes.{resized, some_integer, integer_value}
 use Rattle.generic_code.proofs.Steps.{Alike, Fol, here_step}
 use Rattle.generic_code.proofs.Runs.{Runs, run_then, run_one, computed_bits, follows_run}
 
-below_zero : (a b : ℕ) → a < b → pos a -ℤ pos b ≡ negsuc (b - a - 1)
+pub below_zero : (a b : ℕ) → a < b → pos a -ℤ pos b ≡ negsuc (b - a - 1)
 below_zero a b h = grind (arith, ints)
 
 -- the negation of a number that isn't 0

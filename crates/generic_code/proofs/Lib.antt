@@ -12,6 +12,8 @@ pub mod Calls
 pub mod Copies
 pub mod Choices
 pub mod Runs
+pub mod Distances
 pub mod Absolutes
+pub mod Addresses
 pub mod Entry
 pub mod Edges

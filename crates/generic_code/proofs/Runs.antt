@@ -102,3 +102,43 @@ module _ (program : Program) (symbol : ℕ) (function : Function) (there : funct
       (ap (λ (z : Step State). z.does) runs)
       (closes (alike_behind program symbol function there f now memory s regs r inst v (computed_bits f (record s { regs = regs }) o N uses num r) h at gives fits holds known))
       (omega (arith, low, weighs, heavy, light)) (omega arith))
+
+module _ (f : GFunction) where
+  -- this code runs before that, its last instruction goes on, and leaves these registers, within so much weight
+  abbrev pub Gets : State → List GInst → List GInst → Registers → ℕ → Type 0
+  Gets s code r regs most =
+      (before : Step State) × (w : ℕ) × Chain State (step f) (step f (record s { rest = code ++ r })) before w 0 × (before.does ≡ Goes (record s { rest = r; regs = regs })) × (w + before.weight ≤ most)
+
+  pub gets_then : (s : State) (first second r : List GInst) (regs regs' : Registers) (most most' : ℕ) → Runs f s first (second ++ r) regs most
+      → Gets (record s { regs = regs }) second r regs' most' → Gets s (first ++ second) r regs' (most + most')
+  gets_then s first second r regs regs' most most' (w, c, low) (before, w', c', goes, low') =
+      (before, w + w',
+      subst (λ (code : List GInst). Chain State (step f) (step f (record s { rest = code })) before (w + w') 0) (sym (append_assoc first second r)) (chain_then c c'),
+      goes, omega (arith, low, low'))
+
+  pub gets_one : (s : State) (o : GOp) (d : ℕ) (uses : List ℕ) (num most : ℕ) (r : List GInst) → kind o ≡ Computes → weight f.types (plain o (d ∷ []) uses num) ≤ most
+      → Gets s (plain o (d ∷ []) uses num ∷ []) r (write s.regs d (computed_bits f s o d uses num r)) most
+  gets_one s o d uses num most r computes light =
+      let is = ap (play.by_kind f (record s { rest = plain o (d ∷ []) uses num ∷ r }) (plain o (d ∷ []) uses num) r) computes in
+      let weighs : (step f (record s { rest = plain o (d ∷ []) uses num ∷ r })).weight ≡ weight f.types (plain o (d ∷ []) uses num) = ap (λ (z : Step State). z.weight) is in
+      (step f (record s { rest = plain o (d ∷ []) uses num ∷ r }), 0, here, ap (λ (z : Step State). z.does) is, omega (arith, weighs, light))
+
+module _ (program : Program) (symbol : ℕ) (function : Function) (there : function_at program symbol ≡ Some function) (f : GFunction)
+    (typed : ValuesTyped program f (types function) []) (R : Point program symbol → State → Type 0) (measure : Point program symbol → ℕ)
+    (now : Activation) (memory : Memory) (s : State) (inst : Inst) (h : Alike program symbol function there f now memory s)
+    (at : slice_get (insts_at function now.block) now.place ≡ Some inst) (gives : has_result inst ≡ true) (r : List GInst) (m : ℕ) where
+  -- code whose last instruction writes the register of the value follows an instruction that gives it
+  pub follows_gets : (code : List GInst) (regs : Registers) (a : Bits) (most : ℕ) (v : Value)
+      → Gets f s code r (write regs (number_at function now.block now.place) a) most → Holds program f (types function) now.values regs
+      → act program function now memory inst inst.op ≡ ir.plain program function now memory inst (ir.give program function now memory inst v)
+      → FitsWidth (width inst.gives) v → RefinesBits (bits_of (width inst.gives) v) a → most ≤ 256 * units inst
+      → (Alike program symbol function there f (behind function now inst v) memory (record s { rest = r; regs = write regs (number_at function now.block now.place) a })
+      → R (behind function now inst v, memory) (record s { rest = r; regs = write regs (number_at function now.block now.place) a }))
+      → Fol program symbol function there f R measure m (here_step program symbol function there f R measure now memory) (step f (record s { rest = code ++ r }))
+  follows_gets code regs a most v gets holds acts fits known light closes =
+      let one = ap (step_over_bits program symbol now memory) (step_is program symbol function there f now memory s inst h at ∙ acts) in
+      let low = gets.4 in
+      subst (λ (z : Step (Point program symbol)). Fol program symbol function there f R measure m z (step f (record s { rest = code ++ r }))) (sym one)
+      (moves (behind function now inst v, memory) (record s { rest = r; regs = write regs (number_at function now.block now.place) a }) refl gets.2 gets.3
+      (closes (alike_behind program symbol function there f now memory s regs r inst v a h at gives fits holds known))
+      (omega (arith, low, light)) (omega arith))
