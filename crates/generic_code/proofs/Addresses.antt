@@ -34,7 +34,7 @@ use Rattle.walks.specs.Refines.{RefinesBits}
 use Rattle.walks.specs.Simulation.{here}
 use Rattle.walks.specs.Functions.{bits_of}
 use Rattle.generic_code.specs.Literals.{Pool, plain, skip, type_of, loads, all_loaded, registers, behind_all, register_of}
-use Rattle.generic_code.specs.Parts.{Addend, Bytes, Times, Left, extended, exponent, scale_by, literal_64, first_register, with_literal, multiplied, then_left, left_of, sum_code, sum_types, sum_pool}
+use Rattle.generic_code.specs.Parts.{Addend, Bytes, Times, Left, extended, exponent, scale_by, literal_64, first_register, with_literal, multiplied, then_left, left_of, sum_code, sum_types, sum_pool, offset, values_then, bytes_in, in_order}
 use Rattle.generic_code.proofs.Loads.{Stand, stand_front, stand_first, stand_tail, stand_rest, stand_behind, width_there, other_same, written_there, Known, known_next, known_keep, ValuesTyped, IsReady, Prepared, prepared, registers_behind, unchanged, behind_all_above, loads_run, by_most, Holds, AllReady}
 use Rattle.generic_code.proofs.Results.{binary_row, cast_row, copy_row}
 use Rattle.generic_code.proofs.Computes.{resized}
@@ -340,7 +340,7 @@ module _ (program : Program) (f : GFunction) (tys : List Ty) (values : List Valu
       by_one true st = st
       by_one false st = with_stand pool number (scale_by (exponent size) size) more st
 
-  left_stand : (one : Addend) (pool : Pool) (more : List GType) → Stand f.types pool.next ((left_of gl one pool).types ++ more) → Stand f.types (left_of gl one pool).pool.next more
+  pub left_stand : (one : Addend) (pool : Pool) (more : List GType) → Stand f.types pool.next ((left_of gl one pool).types ++ more) → Stand f.types (left_of gl one pool).pool.next more
   left_stand (Bytes count) pool more h = stand_behind gl f.types (literal_64 count) pool more h
   left_stand (Times w number size) pool more h = by_width (w == 64) h
     where
@@ -443,3 +443,19 @@ module _ (program : Program) (f : GFunction) (tys : List Ty) (values : List Valu
             subst (λ (z : ℕ). RefinesBits (constant 64 z) rest.sum) all_is
             (rest.bits ((base + amount values one) % 2 ^ 64) low (subst (RefinesBits (constant 64 ((base + amount values one) % 2 ^ 64))) (sym (written_there left.regs target.pool.next a)) step_sum) given.1);
       }
+
+  -- the offset in order is a number of 64 bits
+  offset_short : (count : ℕ) → count < 2 ^ 64 → AreShort (offset count)
+  offset_short count small = by_test (count == 0)
+    where
+      by_test : (b : Bool) → AreShort (cond b [] (Bytes count ∷ []))
+      by_test true = tt
+      by_test false = ((λ k e. let same : count ≡ k = cc in subst (λ (z : ℕ). z < 2 ^ 64) same small), tt)
+
+  then_short : (last all : List Addend) → AreShort last → AreShort (values_then last all)
+  then_short last [] h = h
+  then_short last (Bytes count ∷ more) h = then_short last more h
+  then_short last (Times w number size ∷ more) h = ((λ k e. absurd (let bad : ⊥ = cc in bad)), then_short last more h)
+
+  pub order_short : (all : List Addend) → AreShort (in_order all)
+  order_short all = let low : bytes_in all % 2 ^ 64 < 2 ^ 64 = omega arith in then_short (offset (bytes_in all % 2 ^ 64)) all (offset_short (bytes_in all % 2 ^ 64) low)

@@ -115,13 +115,21 @@ integer_value Void h = h
 integer_value (Int w) h = h
 integer_value Ptr h = tt
 
-cast_value : (o : CastOp) (from to : Ty) → IsCast o from to → IsValueType from
+pub cast_value : (o : CastOp) (from to : Ty) → IsCast o from to → IsValueType from
 cast_value c.Trunc from to h = integer_value from h.0
 cast_value c.ZExt from to h = integer_value from h.0
 cast_value c.SExt from to h = integer_value from h.0
 cast_value c.PtrToInt from to h = subst IsValueType (sym h.0) tt
 cast_value c.IntToPtr from to h = integer_value from h.0
 cast_value c.Same from to h = h.0
+
+pub cast_to : (o : CastOp) (from to : Ty) → IsCast o from to → IsValueType to
+cast_to c.Trunc from to h = integer_value to h.1
+cast_to c.ZExt from to h = integer_value to h.1
+cast_to c.SExt from to h = integer_value to h.1
+cast_to c.PtrToInt from to h = integer_value to h.1
+cast_to c.IntToPtr from to h = subst IsValueType (sym h.1) tt
+cast_to c.Same from to h = subst IsValueType h.1 h.0
 
 cast_computes : (o : CastOp) → kind (cast_op o) ≡ Computes
 cast_computes c.Trunc = refl

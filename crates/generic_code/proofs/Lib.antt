@@ -15,5 +15,7 @@ pub mod Runs
 pub mod Distances
 pub mod Absolutes
 pub mod Addresses
+pub mod Pieces
 pub mod Entry
 pub mod Edges
+pub mod Flow

@@ -266,6 +266,12 @@ module _ (f : GFunction) (tys : List Ty) where
   pub known_next : (pool : Pool) (regs : Registers) (a : Bits) → Known f tys pool regs → Known f tys (record { next = pool.next + 1; known = pool.known }) (write regs pool.next a)
   known_next pool regs a h = known_keep pool (pool.next + 1) regs (write regs pool.next a) (omega arith) (λ x up below. other_same regs pool.next a x (λ e. let bad : ⊥ = omega (arith, e, below) in bad)) h
 
+  -- the first two free registers are
+  pub known_second : (pool : Pool) (regs : Registers) (a b : Bits) → Known f tys pool regs → Known f tys (record { next = pool.next + 2; known = pool.known }) (write (write regs pool.next a) (pool.next + 1) b)
+  known_second pool regs a b h =
+      known_keep pool (pool.next + 2) regs (write (write regs pool.next a) (pool.next + 1) b) (omega arith)
+      (λ x up below. other_same (write regs pool.next a) (pool.next + 1) b x (λ e. let bad : ⊥ = omega (arith, e, below) in bad) ∙ other_same regs pool.next a x (λ e. let bad : ⊥ = omega (arith, e, below) in bad)) h
+
   pub known_empty : (next : ℕ) (regs : Registers) → length tys ≤ next → Known f tys (record { next = next; known = [] }) regs
   known_empty next regs low = record { low = low; all = tt }
 

@@ -61,7 +61,7 @@ stored_width (Int w) h =
     subst (λ (b : Bool). (let e : Extent = if b then record { size = w / 8; align = w / 8 } else record { size = 0; align = 1 } in 8 * e.size ≡ w)) (sym h) (memory_width w h)
 stored_width Ptr h = refl
 
-stored_value : (ty : Ty) → IsStored ty → IsValueType ty
+pub stored_value : (ty : Ty) → IsStored ty → IsValueType ty
 stored_value Void h = h
 stored_value (Int zero) h = absurd (let bad : ⊥ = cc in bad)
 stored_value (Int (suc w)) h =
@@ -69,7 +69,7 @@ stored_value (Int (suc w)) h =
     (omega arith, leb-true _ _ parts.1)
 stored_value Ptr h = tt
 
-stored_real : (ty : Ty) → IsStored ty → ty ≡ Void → ⊥
+pub stored_real : (ty : Ty) → IsStored ty → ty ≡ Void → ⊥
 stored_real Void h = absurd h
 stored_real (Int w) h = λ e. let bad : ⊥ = cc in bad
 stored_real Ptr h = λ e. let bad : ⊥ = cc in bad
