@@ -1,4 +1,5 @@
 pub mod Play
 pub mod Formed
 pub mod Refines
+pub mod Legal
 pub mod Laws

@@ -2,7 +2,8 @@
 use Rattle.gmir.specs.declared.code.GFunction.{GFunction}
 use Rattle.gmir.specs.Formed.{IsFormed}
 use Rattle.gmir.specs.Refines.{Refines}
-use Rattle.legal_code.specs.Legal.{IsLegal, KeepsRegisters, HasWideAddresses, legalized}
+use Rattle.gmir.specs.Legal.{IsLegal}
+use Rattle.legal_code.specs.Legal.{KeepsRegisters, HasWideAddresses, legalized}
 
 -- it is legal, and the function's registers are its first
 abbrev pub LegalFormsAreLegal : Type 0

@@ -1,6 +1,6 @@
 -- The legal form of a function of generic machine code: each register is a pointer or has 64 bits, and an operand is extended first
 -- where its meaning asks for the bits above its width, as the legaliser of LLVM's GlobalISel widens a scalar.
-use Rattle.std.specs.Prelude.{◌≡◌, ℕ, suc, ◌+◌, ◌-◌, ◌^◌, ◌⊎◌, ◌==◌, ◌&&◌, nat_le, List, [], ◌∷◌, ◌++◌, length, map, replicate, slice_get, slice_index_or, Some, if◌then◌else◌}
+use Rattle.std.specs.Prelude.{◌≡◌, ℕ, suc, ◌+◌, ◌-◌, ◌^◌, ◌==◌, ◌&&◌, nat_le, List, [], ◌∷◌, ◌++◌, length, map, replicate, slice_get, slice_index_or, Some, if◌then◌else◌}
 use Rattle.gmir.specs.declared.code.GType.{GType}
 use Rattle.gmir.specs.declared.code.GType.TheVariants.{S, P0}
 use Rattle.gmir.specs.declared.code.GOp.{GOp}
@@ -10,10 +10,6 @@ use Rattle.gmir.specs.declared.code.GFunction.{GFunction}
 use Rattle.gmir.specs.Play.{width, use_at, insts_at}
 
 -- ---- what is legal
-
--- each register has 64 bits or is a pointer
-abbrev pub IsLegal : GFunction → Type 0
-IsLegal f = (r : ℕ) (ty : GType) → slice_get f.types r ≡ Some ty → (ty ≡ S 64) ⊎ (ty ≡ P0)
 
 abbrev pub legal_type : GType → GType
 legal_type (S w) = S 64

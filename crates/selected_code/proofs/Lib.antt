@@ -1,0 +1,12 @@
+pub mod Values
+pub mod Straight
+pub mod Rows
+pub mod Edges
+pub mod Loads
+pub mod Steps
+pub mod Simulated
+pub mod Weighing
+pub mod Whole
+pub mod Members
+pub mod Fitting
+pub mod Placing
