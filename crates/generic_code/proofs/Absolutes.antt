@@ -240,8 +240,10 @@ module _ (program : Program) (symbol : ℕ) (function : Function) (there : funct
   pub follows_absolute : FitsWidth (width inst.gives) absolute_value
       → (Alike program symbol function there f (ir.behind function now inst absolute_value) memory absolute_after → R (ir.behind function now inst absolute_value, memory) absolute_after)
       → Fol program symbol function there f R measure m (here_step program symbol function there f R measure now memory)
-      (play.step f (record s { rest = loads program.module_.globals next ((inst.gives, x) ∷ (inst.gives, Num 0) ∷ [])
-      ++ (plain g.Sub (free_register ∷ []) (rz ∷ rx ∷ []) 0 ∷ plain g.Icmp ((free_register + 1) ∷ []) (rx ∷ rz ∷ []) (predicate Slt) ∷ plain g.Select (N ∷ []) ((free_register + 1) ∷ free_register ∷ rx ∷ []) 0 ∷ r) }))
+      (play.step f (record s {
+        rest = loads program.module_.globals next ((inst.gives, x) ∷ (inst.gives, Num 0) ∷ [])
+            ++ (plain g.Sub (free_register ∷ []) (rz ∷ rx ∷ []) 0 ∷ plain g.Icmp ((free_register + 1) ∷ []) (rx ∷ rz ∷ []) (predicate Slt) ∷ plain g.Select (N ∷ []) ((free_register + 1) ∷ free_register ∷ rx ∷ []) 0 ∷ r);
+      }))
   follows_absolute fits closes =
       subst (λ (code : List GInst). Fol program symbol function there f R measure m (here_step program symbol function there f R measure now memory) (play.step f (record s { rest = code })))
       (append_assoc (loads program.module_.globals next ((inst.gives, x) ∷ (inst.gives, Num 0) ∷ [])) (plain g.Sub (free_register ∷ []) (rz ∷ rx ∷ []) 0 ∷ plain g.Icmp ((free_register + 1) ∷ []) (rx ∷ rz ∷ []) (predicate Slt) ∷ []) code_1)

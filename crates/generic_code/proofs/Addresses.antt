@@ -394,12 +394,12 @@ module _ (program : Program) (f : GFunction) (tys : List Ty) (values : List Valu
         regs = left.regs;
         sum = computed_bits f (record s { regs = left.regs }) g.PtrAdd result (from ∷ target.register ∷ []) 0 [];
         gets = λ r. (
-          let q = gets_then f s target.code (plain g.PtrAdd (result ∷ []) (from ∷ target.register ∷ []) 0 ∷ []) r left.regs
-          (write left.regs result (computed_bits f (record s { regs = left.regs }) g.PtrAdd result (from ∷ target.register ∷ []) 0 [])) 136 24
-          (left.run (plain g.PtrAdd (result ∷ []) (from ∷ target.register ∷ []) 0 ∷ r))
-          (gets_one f (record s { regs = left.regs }) g.PtrAdd result (from ∷ target.register ∷ []) 0 24 r refl
-          (by_legal _ 24 160 (legal_two f.types g.PtrAdd result from target.register 0 result_wide wide left.wide))) in
-          let low = q.4 in (q.0, q.1, q.2, q.3, omega (arith, low)));
+            let q = gets_then f s target.code (plain g.PtrAdd (result ∷ []) (from ∷ target.register ∷ []) 0 ∷ []) r left.regs
+            (write left.regs result (computed_bits f (record s { regs = left.regs }) g.PtrAdd result (from ∷ target.register ∷ []) 0 [])) 136 24
+            (left.run (plain g.PtrAdd (result ∷ []) (from ∷ target.register ∷ []) 0 ∷ r))
+            (gets_one f (record s { regs = left.regs }) g.PtrAdd result (from ∷ target.register ∷ []) 0 24 r refl
+            (by_legal _ 24 160 (legal_two f.types g.PtrAdd result from target.register 0 result_wide wide left.wide))) in
+            let low = q.4 in (q.0, q.1, q.2, q.3, omega (arith, low)));
         known = left.known;
         holds = left.holds;
         bits = λ base small at given.
@@ -423,14 +423,14 @@ module _ (program : Program) (f : GFunction) (tys : List Ty) (values : List Valu
         regs = rest.regs;
         sum = rest.sum;
         gets = λ r. (
-          let code = sum_code gl result target.pool.next (skip 1 target.pool) (two ∷ more) in
-          let inner = gets_then f (record s { regs = left.regs }) (plain g.PtrAdd (target.pool.next ∷ []) (from ∷ target.register ∷ []) 0 ∷ []) code r regs' (write rest.regs result rest.sum) 24 (36 + 160 * length (two ∷ more))
-          (run_one f (record s { regs = left.regs }) g.PtrAdd target.pool.next (from ∷ target.register ∷ []) 0 24 (code ++ r) refl
-          (by_legal _ 24 160 (legal_two f.types g.PtrAdd target.pool.next from target.register 0 t_wide wide left.wide)))
-          (rest.gets r) in
-          let q = gets_then f s target.code (plain g.PtrAdd (target.pool.next ∷ []) (from ∷ target.register ∷ []) 0 ∷ code) r left.regs (write rest.regs result rest.sum) 136 (24 + (36 + 160 * length (two ∷ more)))
-          (left.run ((plain g.PtrAdd (target.pool.next ∷ []) (from ∷ target.register ∷ []) 0 ∷ code) ++ r)) inner in
-          let low = q.4 in (q.0, q.1, q.2, q.3, omega (arith, low)));
+            let code = sum_code gl result target.pool.next (skip 1 target.pool) (two ∷ more) in
+            let inner = gets_then f (record s { regs = left.regs }) (plain g.PtrAdd (target.pool.next ∷ []) (from ∷ target.register ∷ []) 0 ∷ []) code r regs' (write rest.regs result rest.sum) 24 (36 + 160 * length (two ∷ more))
+            (run_one f (record s { regs = left.regs }) g.PtrAdd target.pool.next (from ∷ target.register ∷ []) 0 24 (code ++ r) refl
+            (by_legal _ 24 160 (legal_two f.types g.PtrAdd target.pool.next from target.register 0 t_wide wide left.wide)))
+            (rest.gets r) in
+            let q = gets_then f s target.code (plain g.PtrAdd (target.pool.next ∷ []) (from ∷ target.register ∷ []) 0 ∷ code) r left.regs (write rest.regs result rest.sum) 136 (24 + (36 + 160 * length (two ∷ more)))
+            (left.run ((plain g.PtrAdd (target.pool.next ∷ []) (from ∷ target.register ∷ []) 0 ∷ code) ++ r)) inner in
+            let low = q.4 in (q.0, q.1, q.2, q.3, omega (arith, low)));
         known = rest.known;
         holds = rest.holds;
         bits = λ base small at given.

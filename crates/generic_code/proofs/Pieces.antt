@@ -381,4 +381,3 @@ module _ (program : Program) (symbol : ℕ) (function : Function) (there : funct
   by_op (Br to) is ops j stand goes = absurd (let bad : ⊥ = cc in bad)
   by_op (CondBr c a b) is ops j stand goes = absurd (let bad : ⊥ = cc in bad)
   by_op (Switch of a otherwise cases) is ops j stand goes = absurd (let bad : ⊥ = cc in bad)
-

@@ -53,10 +53,11 @@ module _ (f : GFunction) where
 
   pub run_then : (s : State) (first second r : List GInst) (regs regs' : Registers) (most most' : ℕ) → Runs s first (second ++ r) regs most
       → Runs (record s { regs = regs }) second r regs' most' → Runs s (first ++ second) r regs' (most + most')
-  run_then s first second r regs regs' most most' (w, c, low) (w', c', low') =
-      (w + w',
-      subst (λ (code : List GInst). Chain State (step f) (step f (record s { rest = code })) (step f (record s { rest = r; regs = regs' })) (w + w') 0) (sym (append_assoc first second r)) (chain_then c c'),
-      omega (arith, low, low'))
+  run_then s first second r regs regs' most most' (w, c, low) (w', c', low') = (
+    w + w',
+    subst (λ (code : List GInst). Chain State (step f) (step f (record s { rest = code })) (step f (record s { rest = r; regs = regs' })) (w + w') 0) (sym (append_assoc first second r)) (chain_then c c'),
+    omega (arith, low, low'),
+  )
 
   abbrev pub computed_bits : State → GOp → ℕ → List ℕ → ℕ → List GInst → Bits
   computed_bits s o d uses num r = play.result f (record s { rest = plain o (d ∷ []) uses num ∷ r }) (plain o (d ∷ []) uses num) r
@@ -111,10 +112,13 @@ module _ (f : GFunction) where
 
   pub gets_then : (s : State) (first second r : List GInst) (regs regs' : Registers) (most most' : ℕ) → Runs f s first (second ++ r) regs most
       → Gets (record s { regs = regs }) second r regs' most' → Gets s (first ++ second) r regs' (most + most')
-  gets_then s first second r regs regs' most most' (w, c, low) (before, w', c', goes, low') =
-      (before, w + w',
-      subst (λ (code : List GInst). Chain State (step f) (step f (record s { rest = code })) before (w + w') 0) (sym (append_assoc first second r)) (chain_then c c'),
-      goes, omega (arith, low, low'))
+  gets_then s first second r regs regs' most most' (w, c, low) (before, w', c', goes, low') = (
+    before,
+    w + w',
+    subst (λ (code : List GInst). Chain State (step f) (step f (record s { rest = code })) before (w + w') 0) (sym (append_assoc first second r)) (chain_then c c'),
+    goes,
+    omega (arith, low, low'),
+  )
 
   pub gets_one : (s : State) (o : GOp) (d : ℕ) (uses : List ℕ) (num most : ℕ) (r : List GInst) → kind o ≡ Computes → weight f.types (plain o (d ∷ []) uses num) ≤ most
       → Gets s (plain o (d ∷ []) uses num ∷ []) r (write s.regs d (computed_bits f s o d uses num r)) most
