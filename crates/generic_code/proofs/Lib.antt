@@ -19,3 +19,8 @@ pub mod Pieces
 pub mod Entry
 pub mod Edges
 pub mod Flow
+pub mod Arrivals
+pub mod Ways
+pub mod Tests
+pub mod Switches
+pub mod Jumps
