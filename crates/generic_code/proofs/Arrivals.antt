@@ -176,8 +176,7 @@ module _ (program : Program) (symbol : ℕ) (function : Function) (there : funct
         let first : slice_index_or edge.uses place 0 ≡ r = ap (λ (n : ℕ). slice_index_or edge.uses n 0) (let z : place ≡ place + 0 = omega arith in z) ∙ uses 0 in
         let type = number-type function to place inst h.0.at gives in
         let reads_r : read regs (play.on_edge edge.at (map (λ (e : Edge). e.at) (edges_to gl function to all)) (map (phi_register gl function place) (edges_to gl function to all))) ≡ regs r =
-        ap (read regs) (found (phi_register gl function place) edge.at edge (edges_to gl function to all) taken ∙ ap (λ (n : ℕ). Some n) first) in
-        (
+        ap (read regs) (found (phi_register gl function place) edge.at edge (edges_to gl function to all) taken ∙ ap (λ (n : ℕ). Some n) first) in (
           record {
             gives = gives;
             type = type;
@@ -187,7 +186,7 @@ module _ (program : Program) (symbol : ℕ) (function : Function) (there : funct
                 (subst (λ (v : Value). RefinesBits (bits_of (width inst.gives) v) (regs r)) (sym (phi_same program values from inst.op)) ready.0.bits);
           },
           subst (λ (n : ℕ). AreHeads program function f from to edge.at (edges_to gl function to all) values regs (place + 1) n insts) (sym number')
-          (are_heads insts (place + 1) rs h.1 ready.1 (λ k. ap (λ (n : ℕ). slice_index_or edge.uses n 0) (let z : place + 1 + k ≡ place + suc k = omega arith in z) ∙ uses (suc k))),
+              (are_heads insts (place + 1) rs h.1 ready.1 (λ k. ap (λ (n : ℕ). slice_index_or edge.uses n 0) (let z : place + 1 + k ≡ place + suc k = omega arith in z) ∙ uses (suc k))),
         )
 
   -- where there is no phi, none is

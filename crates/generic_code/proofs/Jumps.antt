@@ -55,7 +55,6 @@ use Rattle.ir_meaning.specs.Typed.{IsTyped}
 use Rattle.generic_code.proofs.Flow.{EdgeStands, AllStand, Stands, At}
 use Rattle.generic_code.proofs.Arrivals.{Begins, begins_with, loads_begin, BlockStands, heads_at, heads_typed, arrive, weigh_phis, Lands, land_edge, empty_heads, HeadsAt}
 
-
 module _ (program : Program) (symbol : ℕ) (function : Function) (there : function_at program symbol ≡ Some function) (f : GFunction)
     (typed : ValuesTyped program f (types function) []) (all : List Edge) (all_typed : IsTyped program) where
   abbrev gl : List Global

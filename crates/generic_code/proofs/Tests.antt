@@ -50,7 +50,6 @@ use Rattle.generic_code.proofs.Ways.{land_way, land_behind, moved, Ways, land_br
 use Rattle.generic_code.proofs.Flow.{EdgeStands, AllStand, Stands, At}
 use Rattle.generic_code.proofs.Arrivals.{Begins, begins_with, loads_begin, BlockStands, heads_at, heads_typed, arrive, weigh_phis, Lands, land_edge, empty_heads, HeadsAt}
 
-
 -- a number is equal to another both ways
 equal_both : (a b : ℕ) → (a == b) ≡ (b == a)
 equal_both a b = by_test (a == b) (b == a) refl refl
