@@ -10,6 +10,7 @@ rule stands in checks/allowed.txt, a line each with its reason.
 import glob
 import os
 import re
+import subprocess
 import sys
 
 MOST_EDITS, MOST_CRATES_WITH_EDITS, MOST_LINES, MOST_FUNCTIONS, MOST_FUNCTIONS_BESIDE_TESTS = 4, 30, 800, 100, 30
@@ -220,9 +221,18 @@ def documents(house):
     return [it for it in house.files if re.match(r"(README|docs/[^/]+|crates/\w+/README|bench/\w+/README|examples/README|checks/README)\.md$", it) and it != "docs/EDITS.md"]
 
 
+def libraries_of_kit():
+    """Returns the names of the kit's libraries, which stand beside the page that `rt doc` names, or None where there is no kit."""
+    try:
+        said = subprocess.run(["rt", "doc"], capture_output=True, text=True, check=True).stdout.strip()
+        return {it.split(".")[0] for it in os.listdir(f"{os.path.dirname(said)}/rlibs")}
+    except (OSError, subprocess.CalledProcessError):
+        return None
+
+
 def names(house):
     """A name with an underscore that a document of what stands here puts in backquotes is one of the code, of a crate or of a file."""
-    known = set(house.crates) | set(house.allowed.get("word", {})) | {it.split(".")[0] for it in (os.listdir(KIT_LIBRARIES) if os.path.isdir(KIT_LIBRARIES) else ())}
+    known = set(house.crates) | set(house.allowed.get("word", {})) | (libraries_of_kit() or set())
     for path in house.files:
         known.update(re.findall(r"\w+", path))
         if path.endswith((".rt", ".antt")):
@@ -237,7 +247,8 @@ def names(house):
 
 def crates_named(house):
     """A crate that a document names as one is there: in the crate table of README.md, at the way of data, and where a README says what its crate stands on."""
-    known = set(house.crates) | {it.split(".")[0] for it in os.listdir(KIT_LIBRARIES)} if os.path.isdir(KIT_LIBRARIES) else None
+    kit = libraries_of_kit()
+    known = set(house.crates) | kit if kit is not None else None
     rows = {}
     for line in house.text("README.md").splitlines() if "README.md" in house.files else []:
         cell = re.match(r"\| ((?:`\w+`(?:, )?)+) \|", line)
@@ -260,7 +271,6 @@ def crates_named(house):
                     house.breach(f"{page}: it stands on {other}, which is no crate here or of the kit")
 
 
-KIT_LIBRARIES = os.environ.get("RATTLE_LIBRARIES", "/opt/rattle/rlibs")
 
 
 def way_of_data(house):

@@ -35,4 +35,7 @@ def main(folder, crate):
     open(f"{crate}/stdout", "w").write("".join(told) + said)
 
 
+if len(sys.argv) != 3 or not glob.glob(f"{sys.argv[1]}/*.ll") or not os.path.isfile(f"{sys.argv[2]}/stdin"):
+    print("store.py FOLDER CRATE: what build.sh made, and the crate of the corpus", file=sys.stderr)
+    sys.exit(3)
 main(*sys.argv[1:])

@@ -1,6 +1,6 @@
 ; ModuleID = 'loops.c'
 source_filename = "loops.c"
-target datalayout = "e-m:e-p:64:64-i64:64-i128:128-n64-S128"
+target datalayout = "e-m:e-p:64:64-i64:64-i128:128-n32:64-S128"
 target triple = "riscv64-unknown-linux-gnu"
 
 ; Function Attrs: noinline nounwind optnone
@@ -26,7 +26,7 @@ define dso_local signext i32 @gcd(i32 noundef signext %0, i32 noundef signext %1
   store i32 %13, ptr %3, align 4
   %14 = load i32, ptr %5, align 4
   store i32 %14, ptr %4, align 4
-  br label %6, !llvm.loop !7
+  br label %6, !llvm.loop !9
 
 15:                                               ; preds = %6
   %16 = load i32, ptr %3, align 4
@@ -97,7 +97,7 @@ define dso_local void @sort(ptr noundef %0, i32 noundef signext %1) #0 {
   %44 = load i32, ptr %7, align 4
   %45 = add nsw i32 %44, -1
   store i32 %45, ptr %7, align 4
-  br label %20, !llvm.loop !9
+  br label %20, !llvm.loop !11
 
 46:                                               ; preds = %31
   %47 = load i32, ptr %6, align 4
@@ -113,7 +113,7 @@ define dso_local void @sort(ptr noundef %0, i32 noundef signext %1) #0 {
   %54 = load i32, ptr %5, align 4
   %55 = add nsw i32 %54, 1
   store i32 %55, ptr %5, align 4
-  br label %8, !llvm.loop !10
+  br label %8, !llvm.loop !12
 
 56:                                               ; preds = %8
   ret void
@@ -131,7 +131,7 @@ define dso_local void @clear(ptr noundef %0, i64 noundef %1) #0 {
   ret void
 }
 
-; Function Attrs: argmemonly nofree nounwind willreturn writeonly
+; Function Attrs: nocallback nofree nounwind willreturn memory(argmem: write)
 declare void @llvm.memset.p0.i64(ptr nocapture writeonly, i8, i64, i1 immarg) #1
 
 ; Function Attrs: noinline nounwind optnone
@@ -149,7 +149,7 @@ define dso_local void @move(ptr noundef %0, ptr noundef %1, i64 noundef %2) #0 {
   ret void
 }
 
-; Function Attrs: argmemonly nofree nounwind willreturn
+; Function Attrs: nocallback nofree nounwind willreturn memory(argmem: readwrite)
 declare void @llvm.memmove.p0.p0.i64(ptr nocapture writeonly, ptr nocapture readonly, i64, i1 immarg) #2
 
 ; Function Attrs: noinline nounwind optnone
@@ -361,7 +361,7 @@ define dso_local i64 @collatz(i64 noundef %0) #0 {
   %20 = load i64, ptr %3, align 8
   %21 = add nsw i64 %20, 1
   store i64 %21, ptr %3, align 8
-  br label %4, !llvm.loop !11
+  br label %4, !llvm.loop !13
 
 22:                                               ; preds = %4
   %23 = load i64, ptr %3, align 8
@@ -396,7 +396,7 @@ define dso_local signext i32 @near(ptr noundef %0, ptr noundef %1) #0 {
 
 ; Function Attrs: noinline nounwind optnone
 define dso_local signext i32 @deep() #0 {
-  %1 = call signext i32 @ack(i32 noundef signext 2, i32 noundef signext 3)
+  %1 = call signext i32 @ack(i32 noundef signext 2, i32 noundef signext 3) #4
   ret i32 %1
 }
 
@@ -423,7 +423,7 @@ define internal signext i32 @ack(i32 noundef signext %0, i32 noundef signext %1)
 13:                                               ; preds = %10
   %14 = load i32, ptr %3, align 4
   %15 = sub nsw i32 %14, 1
-  %16 = call signext i32 @ack(i32 noundef signext %15, i32 noundef signext 1)
+  %16 = call signext i32 @ack(i32 noundef signext %15, i32 noundef signext 1) #4
   br label %25
 
 17:                                               ; preds = %10
@@ -432,8 +432,8 @@ define internal signext i32 @ack(i32 noundef signext %0, i32 noundef signext %1)
   %20 = load i32, ptr %3, align 4
   %21 = load i32, ptr %4, align 4
   %22 = sub nsw i32 %21, 1
-  %23 = call signext i32 @ack(i32 noundef signext %20, i32 noundef signext %22)
-  %24 = call signext i32 @ack(i32 noundef signext %19, i32 noundef signext %23)
+  %23 = call signext i32 @ack(i32 noundef signext %20, i32 noundef signext %22) #4
+  %24 = call signext i32 @ack(i32 noundef signext %19, i32 noundef signext %23) #4
   br label %25
 
 25:                                               ; preds = %17, %13
@@ -492,30 +492,33 @@ define dso_local void @assumed(ptr noundef %0, i32 noundef signext %1) #0 {
   %23 = load i32, ptr %5, align 4
   %24 = add nsw i32 %23, 1
   store i32 %24, ptr %5, align 4
-  br label %10, !llvm.loop !12
+  br label %10, !llvm.loop !14
 
 25:                                               ; preds = %10
   ret void
 }
 
-attributes #0 = { noinline nounwind optnone "frame-pointer"="all" "min-legal-vector-width"="0" "no-trapping-math"="true" "stack-protector-buffer-size"="8" "target-features"="+64bit,+a,+c,+d,+f,+m" }
-attributes #1 = { argmemonly nofree nounwind willreturn writeonly }
-attributes #2 = { argmemonly nofree nounwind willreturn }
-attributes #3 = { noinline noreturn nounwind optnone "frame-pointer"="all" "min-legal-vector-width"="0" "no-trapping-math"="true" "stack-protector-buffer-size"="8" "target-features"="+64bit,+a,+c,+d,+f,+m" }
+attributes #0 = { noinline nounwind optnone "frame-pointer"="all" "no-builtins" "no-trapping-math"="true" "stack-protector-buffer-size"="8" "target-cpu"="generic-rv64" "target-features"="+64bit,+m,+relax,+zmmul,-a,-b,-c,-d,-e,-experimental-smmpm,-experimental-smnpm,-experimental-ssnpm,-experimental-sspm,-experimental-ssqosid,-experimental-supm,-experimental-zacas,-experimental-zalasr,-experimental-zicfilp,-experimental-zicfiss,-f,-h,-shcounterenw,-shgatpa,-shtvala,-shvsatpa,-shvstvala,-shvstvecd,-smaia,-smcdeleg,-smcsrind,-smepmp,-smstateen,-ssaia,-ssccfg,-ssccptr,-sscofpmf,-sscounterenw,-sscsrind,-ssstateen,-ssstrict,-sstc,-sstvala,-sstvecd,-ssu64xl,-svade,-svadu,-svbare,-svinval,-svnapot,-svpbmt,-v,-xcvalu,-xcvbi,-xcvbitmanip,-xcvelw,-xcvmac,-xcvmem,-xcvsimd,-xsfcease,-xsfvcp,-xsfvfnrclipxfqf,-xsfvfwmaccqqq,-xsfvqmaccdod,-xsfvqmaccqoq,-xsifivecdiscarddlone,-xsifivecflushdlone,-xtheadba,-xtheadbb,-xtheadbs,-xtheadcmo,-xtheadcondmov,-xtheadfmemidx,-xtheadmac,-xtheadmemidx,-xtheadmempair,-xtheadsync,-xtheadvdot,-xventanacondops,-xwchc,-za128rs,-za64rs,-zaamo,-zabha,-zalrsc,-zama16b,-zawrs,-zba,-zbb,-zbc,-zbkb,-zbkc,-zbkx,-zbs,-zca,-zcb,-zcd,-zce,-zcf,-zcmop,-zcmp,-zcmt,-zdinx,-zfa,-zfbfmin,-zfh,-zfhmin,-zfinx,-zhinx,-zhinxmin,-zic64b,-zicbom,-zicbop,-zicboz,-ziccamoa,-ziccif,-zicclsm,-ziccrse,-zicntr,-zicond,-zicsr,-zifencei,-zihintntl,-zihintpause,-zihpm,-zimop,-zk,-zkn,-zknd,-zkne,-zknh,-zkr,-zks,-zksed,-zksh,-zkt,-ztso,-zvbb,-zvbc,-zve32f,-zve32x,-zve64d,-zve64f,-zve64x,-zvfbfmin,-zvfbfwma,-zvfh,-zvfhmin,-zvkb,-zvkg,-zvkn,-zvknc,-zvkned,-zvkng,-zvknha,-zvknhb,-zvks,-zvksc,-zvksed,-zvksg,-zvksh,-zvkt,-zvl1024b,-zvl128b,-zvl16384b,-zvl2048b,-zvl256b,-zvl32768b,-zvl32b,-zvl4096b,-zvl512b,-zvl64b,-zvl65536b,-zvl8192b" }
+attributes #1 = { nocallback nofree nounwind willreturn memory(argmem: write) }
+attributes #2 = { nocallback nofree nounwind willreturn memory(argmem: readwrite) }
+attributes #3 = { noinline noreturn nounwind optnone "frame-pointer"="all" "no-builtins" "no-trapping-math"="true" "stack-protector-buffer-size"="8" "target-cpu"="generic-rv64" "target-features"="+64bit,+m,+relax,+zmmul,-a,-b,-c,-d,-e,-experimental-smmpm,-experimental-smnpm,-experimental-ssnpm,-experimental-sspm,-experimental-ssqosid,-experimental-supm,-experimental-zacas,-experimental-zalasr,-experimental-zicfilp,-experimental-zicfiss,-f,-h,-shcounterenw,-shgatpa,-shtvala,-shvsatpa,-shvstvala,-shvstvecd,-smaia,-smcdeleg,-smcsrind,-smepmp,-smstateen,-ssaia,-ssccfg,-ssccptr,-sscofpmf,-sscounterenw,-sscsrind,-ssstateen,-ssstrict,-sstc,-sstvala,-sstvecd,-ssu64xl,-svade,-svadu,-svbare,-svinval,-svnapot,-svpbmt,-v,-xcvalu,-xcvbi,-xcvbitmanip,-xcvelw,-xcvmac,-xcvmem,-xcvsimd,-xsfcease,-xsfvcp,-xsfvfnrclipxfqf,-xsfvfwmaccqqq,-xsfvqmaccdod,-xsfvqmaccqoq,-xsifivecdiscarddlone,-xsifivecflushdlone,-xtheadba,-xtheadbb,-xtheadbs,-xtheadcmo,-xtheadcondmov,-xtheadfmemidx,-xtheadmac,-xtheadmemidx,-xtheadmempair,-xtheadsync,-xtheadvdot,-xventanacondops,-xwchc,-za128rs,-za64rs,-zaamo,-zabha,-zalrsc,-zama16b,-zawrs,-zba,-zbb,-zbc,-zbkb,-zbkc,-zbkx,-zbs,-zca,-zcb,-zcd,-zce,-zcf,-zcmop,-zcmp,-zcmt,-zdinx,-zfa,-zfbfmin,-zfh,-zfhmin,-zfinx,-zhinx,-zhinxmin,-zic64b,-zicbom,-zicbop,-zicboz,-ziccamoa,-ziccif,-zicclsm,-ziccrse,-zicntr,-zicond,-zicsr,-zifencei,-zihintntl,-zihintpause,-zihpm,-zimop,-zk,-zkn,-zknd,-zkne,-zknh,-zkr,-zks,-zksed,-zksh,-zkt,-ztso,-zvbb,-zvbc,-zve32f,-zve32x,-zve64d,-zve64f,-zve64x,-zvfbfmin,-zvfbfwma,-zvfh,-zvfhmin,-zvkb,-zvkg,-zvkn,-zvknc,-zvkned,-zvkng,-zvknha,-zvknhb,-zvks,-zvksc,-zvksed,-zvksg,-zvksh,-zvkt,-zvl1024b,-zvl128b,-zvl16384b,-zvl2048b,-zvl256b,-zvl32768b,-zvl32b,-zvl4096b,-zvl512b,-zvl64b,-zvl65536b,-zvl8192b" }
+attributes #4 = { nobuiltin "no-builtins" }
 
-!llvm.module.flags = !{!0, !1, !2, !3, !4, !5}
-!llvm.ident = !{!6}
+!llvm.module.flags = !{!0, !1, !2, !4, !5, !6, !7}
+!llvm.ident = !{!8}
 
 !0 = !{i32 1, !"wchar_size", i32 4}
-!1 = !{i32 1, !"target-abi", !"lp64d"}
-!2 = !{i32 7, !"PIC Level", i32 2}
-!3 = !{i32 7, !"PIE Level", i32 2}
-!4 = !{i32 7, !"frame-pointer", i32 2}
-!5 = !{i32 1, !"SmallDataLimit", i32 8}
-!6 = !{!"Debian clang version 14.0.6"}
-!7 = distinct !{!7, !8}
-!8 = !{!"llvm.loop.mustprogress"}
-!9 = distinct !{!9, !8}
-!10 = distinct !{!10, !8}
-!11 = distinct !{!11, !8}
-!12 = distinct !{!12, !8}
+!1 = !{i32 1, !"target-abi", !"lp64"}
+!2 = !{i32 6, !"riscv-isa", !3}
+!3 = !{!"rv64i2p1_m2p0_zmmul1p0"}
+!4 = !{i32 8, !"PIC Level", i32 2}
+!5 = !{i32 7, !"PIE Level", i32 2}
+!6 = !{i32 7, !"frame-pointer", i32 2}
+!7 = !{i32 8, !"SmallDataLimit", i32 8}
+!8 = !{!"Debian clang version 19.1.7 (3~deb12u1)"}
+!9 = distinct !{!9, !10}
+!10 = !{!"llvm.loop.mustprogress"}
+!11 = distinct !{!11, !10}
+!12 = distinct !{!12, !10}
+!13 = distinct !{!13, !10}
+!14 = distinct !{!14, !10}

@@ -1,6 +1,6 @@
 ; ModuleID = 'bigint.c'
 source_filename = "bigint.c"
-target datalayout = "e-m:e-p:64:64-i64:64-i128:128-n64-S128"
+target datalayout = "e-m:e-p:64:64-i64:64-i128:128-n32:64-S128"
 target triple = "riscv64-unknown-linux-gnu"
 
 @a = internal global [16 x i32] zeroinitializer, align 4
@@ -14,7 +14,7 @@ define dso_local signext i32 @digits_of_factorial(i32 noundef signext %0) #0 {
   %4 = alloca i32, align 4
   store i32 %0, ptr %2, align 4
   store i32 0, ptr %3, align 4
-  call void @set(ptr noundef getelementptr inbounds ([16 x i32], ptr @a, i64 0, i64 0), i64 noundef 1) #1
+  call void @set(ptr noundef @a, i64 noundef 1) #1
   store i32 2, ptr %4, align 4
   br label %5
 
@@ -26,30 +26,30 @@ define dso_local signext i32 @digits_of_factorial(i32 noundef signext %0) #0 {
 
 9:                                                ; preds = %5
   %10 = load i32, ptr %4, align 4
-  call void @times(ptr noundef getelementptr inbounds ([16 x i32], ptr @a, i64 0, i64 0), i32 noundef signext %10) #1
+  call void @times(ptr noundef @a, i32 noundef signext %10) #1
   br label %11
 
 11:                                               ; preds = %9
   %12 = load i32, ptr %4, align 4
   %13 = add i32 %12, 1
   store i32 %13, ptr %4, align 4
-  br label %5, !llvm.loop !7
+  br label %5, !llvm.loop !9
 
 14:                                               ; preds = %5
   br label %15
 
 15:                                               ; preds = %19, %14
-  %16 = call signext i32 @is_zero(ptr noundef getelementptr inbounds ([16 x i32], ptr @a, i64 0, i64 0)) #1
+  %16 = call signext i32 @is_zero(ptr noundef @a) #1
   %17 = icmp ne i32 %16, 0
   %18 = xor i1 %17, true
   br i1 %18, label %19, label %23
 
 19:                                               ; preds = %15
-  %20 = call signext i32 @divided(ptr noundef getelementptr inbounds ([16 x i32], ptr @a, i64 0, i64 0), i32 noundef signext 10) #1
+  %20 = call signext i32 @divided(ptr noundef @a, i32 noundef signext 10) #1
   %21 = load i32, ptr %3, align 4
   %22 = add nsw i32 %21, %20
   store i32 %22, ptr %3, align 4
-  br label %15, !llvm.loop !9
+  br label %15, !llvm.loop !11
 
 23:                                               ; preds = %15
   %24 = load i32, ptr %3, align 4
@@ -83,7 +83,7 @@ define internal void @set(ptr noundef %0, i64 noundef %1) #0 {
   %15 = load i32, ptr %5, align 4
   %16 = add nsw i32 %15, 1
   store i32 %16, ptr %5, align 4
-  br label %6, !llvm.loop !10
+  br label %6, !llvm.loop !12
 
 17:                                               ; preds = %6
   %18 = load i64, ptr %4, align 8
@@ -146,7 +146,7 @@ define internal void @times(ptr noundef %0, i32 noundef signext %1) #0 {
   %31 = load i32, ptr %6, align 4
   %32 = add nsw i32 %31, 1
   store i32 %32, ptr %6, align 4
-  br label %7, !llvm.loop !11
+  br label %7, !llvm.loop !13
 
 33:                                               ; preds = %7
   ret void
@@ -186,7 +186,7 @@ define internal signext i32 @is_zero(ptr noundef %0) #0 {
   %18 = load i32, ptr %4, align 4
   %19 = add nsw i32 %18, 1
   store i32 %19, ptr %4, align 4
-  br label %5, !llvm.loop !12
+  br label %5, !llvm.loop !14
 
 20:                                               ; preds = %5
   store i32 1, ptr %2, align 4
@@ -246,7 +246,7 @@ define internal signext i32 @divided(ptr noundef %0, i32 noundef signext %1) #0 
   %34 = load i32, ptr %6, align 4
   %35 = add nsw i32 %34, -1
   store i32 %35, ptr %6, align 4
-  br label %7, !llvm.loop !13
+  br label %7, !llvm.loop !15
 
 36:                                               ; preds = %7
   %37 = load i64, ptr %5, align 8
@@ -262,8 +262,8 @@ define dso_local signext i32 @fibonacci_modulo(i32 noundef signext %0, i32 nound
   %6 = alloca i32, align 4
   store i32 %0, ptr %3, align 4
   store i32 %1, ptr %4, align 4
-  call void @set(ptr noundef getelementptr inbounds ([16 x i32], ptr @a, i64 0, i64 0), i64 noundef 0) #1
-  call void @set(ptr noundef getelementptr inbounds ([16 x i32], ptr @b, i64 0, i64 0), i64 noundef 1) #1
+  call void @set(ptr noundef @a, i64 noundef 0) #1
+  call void @set(ptr noundef @b, i64 noundef 1) #1
   store i32 0, ptr %5, align 4
   br label %7
 
@@ -274,7 +274,7 @@ define dso_local signext i32 @fibonacci_modulo(i32 noundef signext %0, i32 nound
   br i1 %10, label %11, label %37
 
 11:                                               ; preds = %7
-  call void @add(ptr noundef getelementptr inbounds ([16 x i32], ptr @a, i64 0, i64 0), ptr noundef getelementptr inbounds ([16 x i32], ptr @b, i64 0, i64 0), ptr noundef getelementptr inbounds ([16 x i32], ptr @c, i64 0, i64 0)) #1
+  call void @add(ptr noundef @a, ptr noundef @b, ptr noundef @c) #1
   store i32 0, ptr %6, align 4
   br label %12
 
@@ -306,7 +306,7 @@ define dso_local signext i32 @fibonacci_modulo(i32 noundef signext %0, i32 nound
   %31 = load i32, ptr %6, align 4
   %32 = add nsw i32 %31, 1
   store i32 %32, ptr %6, align 4
-  br label %12, !llvm.loop !14
+  br label %12, !llvm.loop !16
 
 33:                                               ; preds = %12
   br label %34
@@ -315,11 +315,11 @@ define dso_local signext i32 @fibonacci_modulo(i32 noundef signext %0, i32 nound
   %35 = load i32, ptr %5, align 4
   %36 = add nsw i32 %35, 1
   store i32 %36, ptr %5, align 4
-  br label %7, !llvm.loop !15
+  br label %7, !llvm.loop !17
 
 37:                                               ; preds = %7
   %38 = load i32, ptr %4, align 4
-  %39 = call signext i32 @divided(ptr noundef getelementptr inbounds ([16 x i32], ptr @a, i64 0, i64 0), i32 noundef signext %38) #1
+  %39 = call signext i32 @divided(ptr noundef @a, i32 noundef signext %38) #1
   ret i32 %39
 }
 
@@ -375,7 +375,7 @@ define internal void @add(ptr noundef %0, ptr noundef %1, ptr noundef %2) #0 {
   %37 = load i32, ptr %8, align 4
   %38 = add nsw i32 %37, 1
   store i32 %38, ptr %8, align 4
-  br label %9, !llvm.loop !16
+  br label %9, !llvm.loop !18
 
 39:                                               ; preds = %9
   ret void
@@ -450,26 +450,28 @@ define dso_local i64 @high_product(i64 noundef %0, i64 noundef %1) #0 {
   ret i64 %55
 }
 
-attributes #0 = { noinline nounwind optnone "frame-pointer"="all" "min-legal-vector-width"="0" "no-builtins" "no-trapping-math"="true" "stack-protector-buffer-size"="8" "target-features"="+64bit,+m" }
+attributes #0 = { noinline nounwind optnone "frame-pointer"="all" "no-builtins" "no-trapping-math"="true" "stack-protector-buffer-size"="8" "target-cpu"="generic-rv64" "target-features"="+64bit,+m,+relax,+zmmul,-a,-b,-c,-d,-e,-experimental-smmpm,-experimental-smnpm,-experimental-ssnpm,-experimental-sspm,-experimental-ssqosid,-experimental-supm,-experimental-zacas,-experimental-zalasr,-experimental-zicfilp,-experimental-zicfiss,-f,-h,-shcounterenw,-shgatpa,-shtvala,-shvsatpa,-shvstvala,-shvstvecd,-smaia,-smcdeleg,-smcsrind,-smepmp,-smstateen,-ssaia,-ssccfg,-ssccptr,-sscofpmf,-sscounterenw,-sscsrind,-ssstateen,-ssstrict,-sstc,-sstvala,-sstvecd,-ssu64xl,-svade,-svadu,-svbare,-svinval,-svnapot,-svpbmt,-v,-xcvalu,-xcvbi,-xcvbitmanip,-xcvelw,-xcvmac,-xcvmem,-xcvsimd,-xsfcease,-xsfvcp,-xsfvfnrclipxfqf,-xsfvfwmaccqqq,-xsfvqmaccdod,-xsfvqmaccqoq,-xsifivecdiscarddlone,-xsifivecflushdlone,-xtheadba,-xtheadbb,-xtheadbs,-xtheadcmo,-xtheadcondmov,-xtheadfmemidx,-xtheadmac,-xtheadmemidx,-xtheadmempair,-xtheadsync,-xtheadvdot,-xventanacondops,-xwchc,-za128rs,-za64rs,-zaamo,-zabha,-zalrsc,-zama16b,-zawrs,-zba,-zbb,-zbc,-zbkb,-zbkc,-zbkx,-zbs,-zca,-zcb,-zcd,-zce,-zcf,-zcmop,-zcmp,-zcmt,-zdinx,-zfa,-zfbfmin,-zfh,-zfhmin,-zfinx,-zhinx,-zhinxmin,-zic64b,-zicbom,-zicbop,-zicboz,-ziccamoa,-ziccif,-zicclsm,-ziccrse,-zicntr,-zicond,-zicsr,-zifencei,-zihintntl,-zihintpause,-zihpm,-zimop,-zk,-zkn,-zknd,-zkne,-zknh,-zkr,-zks,-zksed,-zksh,-zkt,-ztso,-zvbb,-zvbc,-zve32f,-zve32x,-zve64d,-zve64f,-zve64x,-zvfbfmin,-zvfbfwma,-zvfh,-zvfhmin,-zvkb,-zvkg,-zvkn,-zvknc,-zvkned,-zvkng,-zvknha,-zvknhb,-zvks,-zvksc,-zvksed,-zvksg,-zvksh,-zvkt,-zvl1024b,-zvl128b,-zvl16384b,-zvl2048b,-zvl256b,-zvl32768b,-zvl32b,-zvl4096b,-zvl512b,-zvl64b,-zvl65536b,-zvl8192b" }
 attributes #1 = { nobuiltin "no-builtins" }
 
-!llvm.module.flags = !{!0, !1, !2, !3, !4, !5}
-!llvm.ident = !{!6}
+!llvm.module.flags = !{!0, !1, !2, !4, !5, !6, !7}
+!llvm.ident = !{!8}
 
 !0 = !{i32 1, !"wchar_size", i32 4}
 !1 = !{i32 1, !"target-abi", !"lp64"}
-!2 = !{i32 7, !"PIC Level", i32 2}
-!3 = !{i32 7, !"PIE Level", i32 2}
-!4 = !{i32 7, !"frame-pointer", i32 2}
-!5 = !{i32 1, !"SmallDataLimit", i32 8}
-!6 = !{!"Debian clang version 14.0.6"}
-!7 = distinct !{!7, !8}
-!8 = !{!"llvm.loop.mustprogress"}
-!9 = distinct !{!9, !8}
-!10 = distinct !{!10, !8}
-!11 = distinct !{!11, !8}
-!12 = distinct !{!12, !8}
-!13 = distinct !{!13, !8}
-!14 = distinct !{!14, !8}
-!15 = distinct !{!15, !8}
-!16 = distinct !{!16, !8}
+!2 = !{i32 6, !"riscv-isa", !3}
+!3 = !{!"rv64i2p1_m2p0_zmmul1p0"}
+!4 = !{i32 8, !"PIC Level", i32 2}
+!5 = !{i32 7, !"PIE Level", i32 2}
+!6 = !{i32 7, !"frame-pointer", i32 2}
+!7 = !{i32 8, !"SmallDataLimit", i32 8}
+!8 = !{!"Debian clang version 19.1.7 (3~deb12u1)"}
+!9 = distinct !{!9, !10}
+!10 = !{!"llvm.loop.mustprogress"}
+!11 = distinct !{!11, !10}
+!12 = distinct !{!12, !10}
+!13 = distinct !{!13, !10}
+!14 = distinct !{!14, !10}
+!15 = distinct !{!15, !10}
+!16 = distinct !{!16, !10}
+!17 = distinct !{!17, !10}
+!18 = distinct !{!18, !10}

@@ -1,13 +1,13 @@
 ; ModuleID = 'calendar.c'
 source_filename = "calendar.c"
-target datalayout = "e-m:e-p:64:64-i64:64-i128:128-n64-S128"
+target datalayout = "e-m:e-p:64:64-i64:64-i128:128-n32:64-S128"
 target triple = "riscv64-unknown-linux-gnu"
 
 @lengths = internal unnamed_addr constant [12 x i8] c"\1F\1C\1F\1E\1F\1E\1F\1F\1E\1F\1E\1F", align 1
 @switch.table.season = private unnamed_addr constant [12 x i32] [i32 0, i32 0, i32 1, i32 1, i32 1, i32 2, i32 2, i32 2, i32 3, i32 3, i32 3, i32 0], align 4
 
-; Function Attrs: mustprogress nofree norecurse nosync nounwind readnone willreturn
-define dso_local zeroext i1 @is_leap(i32 noundef signext %0) local_unnamed_addr #0 {
+; Function Attrs: mustprogress nofree norecurse nosync nounwind willreturn memory(none)
+define dso_local noundef zeroext i1 @is_leap(i32 noundef signext %0) local_unnamed_addr #0 {
   %2 = and i32 %0, 3
   %3 = icmp ne i32 %2, 0
   %4 = srem i32 %0, 100
@@ -25,8 +25,8 @@ define dso_local zeroext i1 @is_leap(i32 noundef signext %0) local_unnamed_addr 
   ret i1 %11
 }
 
-; Function Attrs: mustprogress nofree norecurse nosync nounwind readnone willreturn
-define dso_local signext i32 @days_in(i32 noundef signext %0, i32 noundef signext %1) local_unnamed_addr #0 {
+; Function Attrs: mustprogress nofree norecurse nosync nounwind willreturn memory(none)
+define dso_local signext range(i32 0, 256) i32 @days_in(i32 noundef signext %0, i32 noundef signext %1) local_unnamed_addr #0 {
   %3 = add i32 %1, -13
   %4 = icmp ult i32 %3, -12
   br i1 %4, label %22, label %5
@@ -48,9 +48,9 @@ define dso_local signext i32 @days_in(i32 noundef signext %0, i32 noundef signex
 
 16:                                               ; preds = %7, %5
   %17 = add nsw i32 %1, -1
-  %18 = zext i32 %17 to i64
+  %18 = zext nneg i32 %17 to i64
   %19 = getelementptr inbounds [12 x i8], ptr @lengths, i64 0, i64 %18
-  %20 = load i8, ptr %19, align 1, !tbaa !6
+  %20 = load i8, ptr %19, align 1, !tbaa !8
   %21 = zext i8 %20 to i32
   br label %22
 
@@ -59,8 +59,8 @@ define dso_local signext i32 @days_in(i32 noundef signext %0, i32 noundef signex
   ret i32 %23
 }
 
-; Function Attrs: mustprogress nofree norecurse nosync nounwind readnone willreturn
-define dso_local i64 @day_number(i64 noundef %0, i32 noundef signext %1, i32 noundef signext %2) local_unnamed_addr #0 {
+; Function Attrs: mustprogress nofree norecurse nosync nounwind willreturn memory(none)
+define dso_local range(i64 -9223372036854775808, 9223372036854056340) i64 @day_number(i64 noundef %0, i32 noundef signext %1, i32 noundef signext %2) local_unnamed_addr #0 {
   %4 = icmp ult i32 %1, 3
   %5 = sext i1 %4 to i64
   %6 = add i64 %5, %0
@@ -68,7 +68,7 @@ define dso_local i64 @day_number(i64 noundef %0, i32 noundef signext %1, i32 nou
   %8 = icmp slt i64 %6, 0
   %9 = select i1 %8, i64 %7, i64 %6
   %10 = sdiv i64 %9, 400
-  %11 = mul i64 %10, -400
+  %11 = mul i64 %10, 4294966896
   %12 = add i64 %11, %6
   %13 = trunc i64 %12 to i32
   %14 = icmp ugt i32 %1, 2
@@ -92,8 +92,8 @@ define dso_local i64 @day_number(i64 noundef %0, i32 noundef signext %1, i32 nou
   ret i64 %31
 }
 
-; Function Attrs: mustprogress nofree norecurse nosync nounwind readnone willreturn
-define dso_local signext i32 @weekday(i64 noundef %0, i32 noundef signext %1, i32 noundef signext %2) local_unnamed_addr #0 {
+; Function Attrs: mustprogress nofree norecurse nosync nounwind willreturn memory(none)
+define dso_local signext range(i32 0, 7) i32 @weekday(i64 noundef %0, i32 noundef signext %1, i32 noundef signext %2) local_unnamed_addr #0 {
   %4 = icmp ult i32 %1, 3
   %5 = sext i1 %4 to i64
   %6 = add i64 %5, %0
@@ -101,7 +101,7 @@ define dso_local signext i32 @weekday(i64 noundef %0, i32 noundef signext %1, i3
   %8 = icmp slt i64 %6, 0
   %9 = select i1 %8, i64 %7, i64 %6
   %10 = sdiv i64 %9, 400
-  %11 = mul i64 %10, -400
+  %11 = mul i64 %10, 4294966896
   %12 = add i64 %11, %6
   %13 = trunc i64 %12 to i32
   %14 = icmp ugt i32 %1, 2
@@ -127,7 +127,7 @@ define dso_local signext i32 @weekday(i64 noundef %0, i32 noundef signext %1, i3
 
 33:                                               ; preds = %3
   %34 = add nsw i64 %31, 4
-  %35 = srem i64 %34, 7
+  %35 = urem i64 %34, 7
   br label %40
 
 36:                                               ; preds = %3
@@ -138,18 +138,18 @@ define dso_local signext i32 @weekday(i64 noundef %0, i32 noundef signext %1, i3
 
 40:                                               ; preds = %36, %33
   %41 = phi i64 [ %35, %33 ], [ %39, %36 ]
-  %42 = trunc i64 %41 to i32
+  %42 = trunc nuw nsw i64 %41 to i32
   ret i32 %42
 }
 
-; Function Attrs: mustprogress nofree norecurse nosync nounwind readnone willreturn
-define dso_local signext i32 @season(i32 noundef signext %0) local_unnamed_addr #0 {
+; Function Attrs: mustprogress nofree norecurse nosync nounwind willreturn memory(none)
+define dso_local signext range(i32 -1, 4) i32 @season(i32 noundef signext %0) local_unnamed_addr #0 {
   %2 = add i32 %0, -1
   %3 = icmp ult i32 %2, 12
   br i1 %3, label %4, label %8
 
 4:                                                ; preds = %1
-  %5 = sext i32 %2 to i64
+  %5 = zext nneg i32 %2 to i64
   %6 = getelementptr inbounds [12 x i32], ptr @switch.table.season, i64 0, i64 %5
   %7 = load i32, ptr %6, align 4
   br label %8
@@ -159,8 +159,8 @@ define dso_local signext i32 @season(i32 noundef signext %0) local_unnamed_addr 
   ret i32 %9
 }
 
-; Function Attrs: mustprogress nofree norecurse nosync nounwind readnone willreturn
-define dso_local i64 @seconds(i32 noundef signext %0, i32 noundef signext %1, i32 noundef signext %2) local_unnamed_addr #0 {
+; Function Attrs: mustprogress nofree norecurse nosync nounwind willreturn memory(none)
+define dso_local range(i64 -7861937635328, 7861937631668) i64 @seconds(i32 noundef signext %0, i32 noundef signext %1, i32 noundef signext %2) local_unnamed_addr #0 {
   %4 = sext i32 %0 to i64
   %5 = mul nsw i64 %4, 3600
   %6 = sext i32 %1 to i64
@@ -171,37 +171,38 @@ define dso_local i64 @seconds(i32 noundef signext %0, i32 noundef signext %1, i3
   ret i64 %10
 }
 
-; Function Attrs: mustprogress nofree norecurse nosync nounwind readnone willreturn
-define dso_local signext i32 @clock_of(i64 noundef %0) local_unnamed_addr #0 {
+; Function Attrs: mustprogress nofree norecurse nosync nounwind willreturn memory(none)
+define dso_local signext range(i32 0, 235960) i32 @clock_of(i64 noundef %0) local_unnamed_addr #0 {
   %2 = srem i64 %0, 86400
   %3 = icmp slt i64 %2, 0
   %4 = add nsw i64 %2, 86400
   %5 = select i1 %3, i64 %4, i64 %2
-  %6 = sdiv i64 %5, 3600
-  %7 = mul nsw i64 %6, 10000
-  %8 = freeze i64 %5
-  %9 = sdiv i64 %8, 60
-  %10 = srem i64 %9, 60
-  %11 = mul nsw i64 %10, 100
-  %12 = mul i64 %9, 60
-  %13 = sub i64 %8, %12
-  %14 = add nsw i64 %7, %13
-  %15 = add nsw i64 %14, %11
-  %16 = trunc i64 %15 to i32
-  ret i32 %16
+  %6 = udiv i64 %5, 3600
+  %7 = mul nuw nsw i64 %6, 10000
+  %8 = udiv i64 %5, 60
+  %9 = urem i64 %8, 60
+  %10 = mul nuw nsw i64 %9, 100
+  %11 = mul i64 %8, 60
+  %12 = sub i64 %5, %11
+  %13 = add nuw nsw i64 %7, %12
+  %14 = add nuw nsw i64 %13, %10
+  %15 = trunc nuw nsw i64 %14 to i32
+  ret i32 %15
 }
 
-attributes #0 = { mustprogress nofree norecurse nosync nounwind readnone willreturn "frame-pointer"="none" "min-legal-vector-width"="0" "no-builtins" "no-trapping-math"="true" "stack-protector-buffer-size"="8" "target-features"="+64bit,+m" }
+attributes #0 = { mustprogress nofree norecurse nosync nounwind willreturn memory(none) "no-builtins" "no-trapping-math"="true" "stack-protector-buffer-size"="8" "target-cpu"="generic-rv64" "target-features"="+64bit,+m,+relax,+zmmul,-a,-b,-c,-d,-e,-experimental-smmpm,-experimental-smnpm,-experimental-ssnpm,-experimental-sspm,-experimental-ssqosid,-experimental-supm,-experimental-zacas,-experimental-zalasr,-experimental-zicfilp,-experimental-zicfiss,-f,-h,-shcounterenw,-shgatpa,-shtvala,-shvsatpa,-shvstvala,-shvstvecd,-smaia,-smcdeleg,-smcsrind,-smepmp,-smstateen,-ssaia,-ssccfg,-ssccptr,-sscofpmf,-sscounterenw,-sscsrind,-ssstateen,-ssstrict,-sstc,-sstvala,-sstvecd,-ssu64xl,-svade,-svadu,-svbare,-svinval,-svnapot,-svpbmt,-v,-xcvalu,-xcvbi,-xcvbitmanip,-xcvelw,-xcvmac,-xcvmem,-xcvsimd,-xsfcease,-xsfvcp,-xsfvfnrclipxfqf,-xsfvfwmaccqqq,-xsfvqmaccdod,-xsfvqmaccqoq,-xsifivecdiscarddlone,-xsifivecflushdlone,-xtheadba,-xtheadbb,-xtheadbs,-xtheadcmo,-xtheadcondmov,-xtheadfmemidx,-xtheadmac,-xtheadmemidx,-xtheadmempair,-xtheadsync,-xtheadvdot,-xventanacondops,-xwchc,-za128rs,-za64rs,-zaamo,-zabha,-zalrsc,-zama16b,-zawrs,-zba,-zbb,-zbc,-zbkb,-zbkc,-zbkx,-zbs,-zca,-zcb,-zcd,-zce,-zcf,-zcmop,-zcmp,-zcmt,-zdinx,-zfa,-zfbfmin,-zfh,-zfhmin,-zfinx,-zhinx,-zhinxmin,-zic64b,-zicbom,-zicbop,-zicboz,-ziccamoa,-ziccif,-zicclsm,-ziccrse,-zicntr,-zicond,-zicsr,-zifencei,-zihintntl,-zihintpause,-zihpm,-zimop,-zk,-zkn,-zknd,-zkne,-zknh,-zkr,-zks,-zksed,-zksh,-zkt,-ztso,-zvbb,-zvbc,-zve32f,-zve32x,-zve64d,-zve64f,-zve64x,-zvfbfmin,-zvfbfwma,-zvfh,-zvfhmin,-zvkb,-zvkg,-zvkn,-zvknc,-zvkned,-zvkng,-zvknha,-zvknhb,-zvks,-zvksc,-zvksed,-zvksg,-zvksh,-zvkt,-zvl1024b,-zvl128b,-zvl16384b,-zvl2048b,-zvl256b,-zvl32768b,-zvl32b,-zvl4096b,-zvl512b,-zvl64b,-zvl65536b,-zvl8192b" }
 
-!llvm.module.flags = !{!0, !1, !2, !3, !4}
-!llvm.ident = !{!5}
+!llvm.module.flags = !{!0, !1, !2, !4, !5, !6}
+!llvm.ident = !{!7}
 
 !0 = !{i32 1, !"wchar_size", i32 4}
 !1 = !{i32 1, !"target-abi", !"lp64"}
-!2 = !{i32 7, !"PIC Level", i32 2}
-!3 = !{i32 7, !"PIE Level", i32 2}
-!4 = !{i32 1, !"SmallDataLimit", i32 8}
-!5 = !{!"Debian clang version 14.0.6"}
-!6 = !{!7, !7, i64 0}
-!7 = !{!"omnipotent char", !8, i64 0}
-!8 = !{!"Simple C/C++ TBAA"}
+!2 = !{i32 6, !"riscv-isa", !3}
+!3 = !{!"rv64i2p1_m2p0_zmmul1p0"}
+!4 = !{i32 8, !"PIC Level", i32 2}
+!5 = !{i32 7, !"PIE Level", i32 2}
+!6 = !{i32 8, !"SmallDataLimit", i32 8}
+!7 = !{!"Debian clang version 19.1.7 (3~deb12u1)"}
+!8 = !{!9, !9, i64 0}
+!9 = !{!"omnipotent char", !10, i64 0}
+!10 = !{!"Simple C/C++ TBAA"}

@@ -1,6 +1,6 @@
 ; ModuleID = 'crc.c'
 source_filename = "crc.c"
-target datalayout = "e-m:e-p:64:64-i64:64-i128:128-n64-S128"
+target datalayout = "e-m:e-p:64:64-i64:64-i128:128-n32:64-S128"
 target triple = "riscv64-unknown-linux-gnu"
 
 @text = internal constant [44 x i8] c"The quick brown fox jumps over the lazy dog\00", align 1
@@ -55,7 +55,7 @@ define dso_local signext i32 @crc32(i32 noundef signext %0) #0 {
   %30 = load i32, ptr %5, align 4
   %31 = add nsw i32 %30, 1
   store i32 %31, ptr %5, align 4
-  br label %18, !llvm.loop !7
+  br label %18, !llvm.loop !9
 
 32:                                               ; preds = %18
   br label %33
@@ -64,7 +64,7 @@ define dso_local signext i32 @crc32(i32 noundef signext %0) #0 {
   %34 = load i32, ptr %4, align 4
   %35 = add nsw i32 %34, 1
   store i32 %35, ptr %4, align 4
-  br label %6, !llvm.loop !9
+  br label %6, !llvm.loop !11
 
 36:                                               ; preds = %6
   %37 = load i32, ptr %3, align 4
@@ -116,7 +116,7 @@ define dso_local zeroext i16 @crc16(i32 noundef signext %0) #0 {
   %30 = load i32, ptr %4, align 4
   %31 = add nsw i32 %30, 1
   store i32 %31, ptr %4, align 4
-  br label %5, !llvm.loop !10
+  br label %5, !llvm.loop !12
 
 32:                                               ; preds = %5
   %33 = load i16, ptr %3, align 2
@@ -179,7 +179,7 @@ define internal void @make() #0 {
   %32 = load i32, ptr %3, align 4
   %33 = add nsw i32 %32, 1
   store i32 %33, ptr %3, align 4
-  br label %11, !llvm.loop !11
+  br label %11, !llvm.loop !13
 
 34:                                               ; preds = %11
   %35 = load i16, ptr %2, align 2
@@ -193,7 +193,7 @@ define internal void @make() #0 {
   %40 = load i32, ptr %1, align 4
   %41 = add nsw i32 %40, 1
   store i32 %41, ptr %1, align 4
-  br label %4, !llvm.loop !12
+  br label %4, !llvm.loop !14
 
 42:                                               ; preds = %4
   ret void
@@ -238,7 +238,7 @@ define dso_local signext i32 @adler(i32 noundef signext %0) #0 {
   %24 = load i32, ptr %5, align 4
   %25 = add nsw i32 %24, 1
   store i32 %25, ptr %5, align 4
-  br label %6, !llvm.loop !13
+  br label %6, !llvm.loop !15
 
 26:                                               ; preds = %6
   %27 = load i32, ptr %4, align 4
@@ -276,31 +276,33 @@ define dso_local zeroext i8 @parity(i64 noundef %0) #0 {
   %16 = load i64, ptr %2, align 8
   %17 = lshr i64 %16, 8
   store i64 %17, ptr %2, align 8
-  br label %4, !llvm.loop !14
+  br label %4, !llvm.loop !16
 
 18:                                               ; preds = %4
   %19 = load i8, ptr %3, align 1
   ret i8 %19
 }
 
-attributes #0 = { noinline nounwind optnone "frame-pointer"="all" "min-legal-vector-width"="0" "no-builtins" "no-trapping-math"="true" "stack-protector-buffer-size"="8" "target-features"="+64bit,+m" }
+attributes #0 = { noinline nounwind optnone "frame-pointer"="all" "no-builtins" "no-trapping-math"="true" "stack-protector-buffer-size"="8" "target-cpu"="generic-rv64" "target-features"="+64bit,+m,+relax,+zmmul,-a,-b,-c,-d,-e,-experimental-smmpm,-experimental-smnpm,-experimental-ssnpm,-experimental-sspm,-experimental-ssqosid,-experimental-supm,-experimental-zacas,-experimental-zalasr,-experimental-zicfilp,-experimental-zicfiss,-f,-h,-shcounterenw,-shgatpa,-shtvala,-shvsatpa,-shvstvala,-shvstvecd,-smaia,-smcdeleg,-smcsrind,-smepmp,-smstateen,-ssaia,-ssccfg,-ssccptr,-sscofpmf,-sscounterenw,-sscsrind,-ssstateen,-ssstrict,-sstc,-sstvala,-sstvecd,-ssu64xl,-svade,-svadu,-svbare,-svinval,-svnapot,-svpbmt,-v,-xcvalu,-xcvbi,-xcvbitmanip,-xcvelw,-xcvmac,-xcvmem,-xcvsimd,-xsfcease,-xsfvcp,-xsfvfnrclipxfqf,-xsfvfwmaccqqq,-xsfvqmaccdod,-xsfvqmaccqoq,-xsifivecdiscarddlone,-xsifivecflushdlone,-xtheadba,-xtheadbb,-xtheadbs,-xtheadcmo,-xtheadcondmov,-xtheadfmemidx,-xtheadmac,-xtheadmemidx,-xtheadmempair,-xtheadsync,-xtheadvdot,-xventanacondops,-xwchc,-za128rs,-za64rs,-zaamo,-zabha,-zalrsc,-zama16b,-zawrs,-zba,-zbb,-zbc,-zbkb,-zbkc,-zbkx,-zbs,-zca,-zcb,-zcd,-zce,-zcf,-zcmop,-zcmp,-zcmt,-zdinx,-zfa,-zfbfmin,-zfh,-zfhmin,-zfinx,-zhinx,-zhinxmin,-zic64b,-zicbom,-zicbop,-zicboz,-ziccamoa,-ziccif,-zicclsm,-ziccrse,-zicntr,-zicond,-zicsr,-zifencei,-zihintntl,-zihintpause,-zihpm,-zimop,-zk,-zkn,-zknd,-zkne,-zknh,-zkr,-zks,-zksed,-zksh,-zkt,-ztso,-zvbb,-zvbc,-zve32f,-zve32x,-zve64d,-zve64f,-zve64x,-zvfbfmin,-zvfbfwma,-zvfh,-zvfhmin,-zvkb,-zvkg,-zvkn,-zvknc,-zvkned,-zvkng,-zvknha,-zvknhb,-zvks,-zvksc,-zvksed,-zvksg,-zvksh,-zvkt,-zvl1024b,-zvl128b,-zvl16384b,-zvl2048b,-zvl256b,-zvl32768b,-zvl32b,-zvl4096b,-zvl512b,-zvl64b,-zvl65536b,-zvl8192b" }
 attributes #1 = { nobuiltin "no-builtins" }
 
-!llvm.module.flags = !{!0, !1, !2, !3, !4, !5}
-!llvm.ident = !{!6}
+!llvm.module.flags = !{!0, !1, !2, !4, !5, !6, !7}
+!llvm.ident = !{!8}
 
 !0 = !{i32 1, !"wchar_size", i32 4}
 !1 = !{i32 1, !"target-abi", !"lp64"}
-!2 = !{i32 7, !"PIC Level", i32 2}
-!3 = !{i32 7, !"PIE Level", i32 2}
-!4 = !{i32 7, !"frame-pointer", i32 2}
-!5 = !{i32 1, !"SmallDataLimit", i32 8}
-!6 = !{!"Debian clang version 14.0.6"}
-!7 = distinct !{!7, !8}
-!8 = !{!"llvm.loop.mustprogress"}
-!9 = distinct !{!9, !8}
-!10 = distinct !{!10, !8}
-!11 = distinct !{!11, !8}
-!12 = distinct !{!12, !8}
-!13 = distinct !{!13, !8}
-!14 = distinct !{!14, !8}
+!2 = !{i32 6, !"riscv-isa", !3}
+!3 = !{!"rv64i2p1_m2p0_zmmul1p0"}
+!4 = !{i32 8, !"PIC Level", i32 2}
+!5 = !{i32 7, !"PIE Level", i32 2}
+!6 = !{i32 7, !"frame-pointer", i32 2}
+!7 = !{i32 8, !"SmallDataLimit", i32 8}
+!8 = !{!"Debian clang version 19.1.7 (3~deb12u1)"}
+!9 = distinct !{!9, !10}
+!10 = !{!"llvm.loop.mustprogress"}
+!11 = distinct !{!11, !10}
+!12 = distinct !{!12, !10}
+!13 = distinct !{!13, !10}
+!14 = distinct !{!14, !10}
+!15 = distinct !{!15, !10}
+!16 = distinct !{!16, !10}

@@ -1,6 +1,6 @@
 ; ModuleID = 'graphs.c'
 source_filename = "graphs.c"
-target datalayout = "e-m:e-p:64:64-i64:64-i128:128-n64-S128"
+target datalayout = "e-m:e-p:64:64-i64:64-i128:128-n32:64-S128"
 target triple = "riscv64-unknown-linux-gnu"
 
 @lengths = internal constant [8 x [8 x i8]] [[8 x i8] c"\00\04\00\00\00\00\00\08", [8 x i8] c"\04\00\08\00\00\00\00\0B", [8 x i8] c"\00\08\00\07\00\04\00\00", [8 x i8] c"\00\00\07\00\09\0E\00\00", [8 x i8] c"\00\00\00\09\00\0A\00\00", [8 x i8] c"\00\00\04\0E\0A\00\02\00", [8 x i8] c"\00\00\00\00\00\02\00\01", [8 x i8] c"\08\0B\00\00\00\00\01\00"], align 1
@@ -45,7 +45,7 @@ define dso_local signext i32 @shortest(i32 noundef signext %0, i32 noundef signe
   %23 = load i32, ptr %7, align 4
   %24 = add nsw i32 %23, 1
   store i32 %24, ptr %7, align 4
-  br label %12, !llvm.loop !7
+  br label %12, !llvm.loop !9
 
 25:                                               ; preds = %12
   %26 = load i32, ptr %3, align 4
@@ -107,7 +107,7 @@ define dso_local signext i32 @shortest(i32 noundef signext %0, i32 noundef signe
   %59 = load i32, ptr %10, align 4
   %60 = add nsw i32 %59, 1
   store i32 %60, ptr %10, align 4
-  br label %33, !llvm.loop !9
+  br label %33, !llvm.loop !11
 
 61:                                               ; preds = %33
   %62 = load i32, ptr %9, align 4
@@ -182,7 +182,7 @@ define dso_local signext i32 @shortest(i32 noundef signext %0, i32 noundef signe
   %116 = load i32, ptr %11, align 4
   %117 = add nsw i32 %116, 1
   store i32 %117, ptr %11, align 4
-  br label %65, !llvm.loop !10
+  br label %65, !llvm.loop !12
 
 118:                                              ; preds = %65
   br label %119
@@ -191,7 +191,7 @@ define dso_local signext i32 @shortest(i32 noundef signext %0, i32 noundef signe
   %120 = load i32, ptr %8, align 4
   %121 = add nsw i32 %120, 1
   store i32 %121, ptr %8, align 4
-  br label %29, !llvm.loop !11
+  br label %29, !llvm.loop !13
 
 122:                                              ; preds = %29
   %123 = load i32, ptr %4, align 4
@@ -283,7 +283,7 @@ define dso_local signext i32 @between_all() #0 {
   %52 = load i32, ptr %3, align 4
   %53 = add nsw i32 %52, 1
   store i32 %53, ptr %3, align 4
-  br label %13, !llvm.loop !12
+  br label %13, !llvm.loop !14
 
 54:                                               ; preds = %13
   br label %55
@@ -292,7 +292,7 @@ define dso_local signext i32 @between_all() #0 {
   %56 = load i32, ptr %2, align 4
   %57 = add nsw i32 %56, 1
   store i32 %57, ptr %2, align 4
-  br label %9, !llvm.loop !13
+  br label %9, !llvm.loop !15
 
 58:                                               ; preds = %9
   store i32 0, ptr %4, align 4
@@ -379,7 +379,7 @@ define dso_local signext i32 @between_all() #0 {
   %118 = load i32, ptr %6, align 4
   %119 = add nsw i32 %118, 1
   store i32 %119, ptr %6, align 4
-  br label %67, !llvm.loop !14
+  br label %67, !llvm.loop !16
 
 120:                                              ; preds = %67
   br label %121
@@ -388,7 +388,7 @@ define dso_local signext i32 @between_all() #0 {
   %122 = load i32, ptr %5, align 4
   %123 = add nsw i32 %122, 1
   store i32 %123, ptr %5, align 4
-  br label %63, !llvm.loop !15
+  br label %63, !llvm.loop !17
 
 124:                                              ; preds = %63
   br label %125
@@ -397,7 +397,7 @@ define dso_local signext i32 @between_all() #0 {
   %126 = load i32, ptr %4, align 4
   %127 = add nsw i32 %126, 1
   store i32 %127, ptr %4, align 4
-  br label %59, !llvm.loop !16
+  br label %59, !llvm.loop !18
 
 128:                                              ; preds = %59
   store i32 0, ptr %7, align 4
@@ -434,7 +434,7 @@ define dso_local signext i32 @between_all() #0 {
   %147 = load i32, ptr %8, align 4
   %148 = add nsw i32 %147, 1
   store i32 %148, ptr %8, align 4
-  br label %133, !llvm.loop !17
+  br label %133, !llvm.loop !19
 
 149:                                              ; preds = %133
   br label %150
@@ -443,7 +443,7 @@ define dso_local signext i32 @between_all() #0 {
   %151 = load i32, ptr %7, align 4
   %152 = add nsw i32 %151, 1
   store i32 %152, ptr %7, align 4
-  br label %129, !llvm.loop !18
+  br label %129, !llvm.loop !20
 
 153:                                              ; preds = %129
   %154 = load i32, ptr %1, align 4
@@ -484,7 +484,7 @@ define dso_local signext i32 @groups(i32 noundef signext %0, i32 noundef signext
   %21 = load i32, ptr %6, align 4
   %22 = add nsw i32 %21, 1
   store i32 %22, ptr %6, align 4
-  br label %11, !llvm.loop !19
+  br label %11, !llvm.loop !21
 
 23:                                               ; preds = %11
   store i32 0, ptr %7, align 4
@@ -530,7 +530,7 @@ define dso_local signext i32 @groups(i32 noundef signext %0, i32 noundef signext
   %49 = load i32, ptr %7, align 4
   %50 = add nsw i32 %49, 1
   store i32 %50, ptr %7, align 4
-  br label %24, !llvm.loop !20
+  br label %24, !llvm.loop !22
 
 51:                                               ; preds = %24
   %52 = load i32, ptr %5, align 4
@@ -569,7 +569,7 @@ define internal signext i32 @leader(i32 noundef signext %0) #0 {
   %23 = getelementptr inbounds [32 x i32], ptr @parent, i64 0, i64 %22
   %24 = load i32, ptr %23, align 4
   store i32 %24, ptr %2, align 4
-  br label %3, !llvm.loop !21
+  br label %3, !llvm.loop !23
 
 25:                                               ; preds = %3
   %26 = load i32, ptr %2, align 4
@@ -615,7 +615,7 @@ define dso_local signext i32 @steps_to(i32 noundef signext %0, i32 noundef signe
   %22 = load i32, ptr %6, align 4
   %23 = add nsw i32 %22, 1
   store i32 %23, ptr %6, align 4
-  br label %11, !llvm.loop !22
+  br label %11, !llvm.loop !24
 
 24:                                               ; preds = %11
   br label %25
@@ -624,7 +624,7 @@ define dso_local signext i32 @steps_to(i32 noundef signext %0, i32 noundef signe
   %26 = load i32, ptr %5, align 4
   %27 = add nsw i32 %26, 1
   store i32 %27, ptr %5, align 4
-  br label %7, !llvm.loop !23
+  br label %7, !llvm.loop !25
 
 28:                                               ; preds = %7
   %29 = call signext i32 @walk(i32 noundef signext 1, i32 noundef signext 1, i32 noundef signext 1) #1
@@ -735,33 +735,35 @@ define internal signext i32 @walk(i32 noundef signext %0, i32 noundef signext %1
   ret i32 %77
 }
 
-attributes #0 = { noinline nounwind optnone "frame-pointer"="all" "min-legal-vector-width"="0" "no-builtins" "no-trapping-math"="true" "stack-protector-buffer-size"="8" "target-features"="+64bit,+m" }
+attributes #0 = { noinline nounwind optnone "frame-pointer"="all" "no-builtins" "no-trapping-math"="true" "stack-protector-buffer-size"="8" "target-cpu"="generic-rv64" "target-features"="+64bit,+m,+relax,+zmmul,-a,-b,-c,-d,-e,-experimental-smmpm,-experimental-smnpm,-experimental-ssnpm,-experimental-sspm,-experimental-ssqosid,-experimental-supm,-experimental-zacas,-experimental-zalasr,-experimental-zicfilp,-experimental-zicfiss,-f,-h,-shcounterenw,-shgatpa,-shtvala,-shvsatpa,-shvstvala,-shvstvecd,-smaia,-smcdeleg,-smcsrind,-smepmp,-smstateen,-ssaia,-ssccfg,-ssccptr,-sscofpmf,-sscounterenw,-sscsrind,-ssstateen,-ssstrict,-sstc,-sstvala,-sstvecd,-ssu64xl,-svade,-svadu,-svbare,-svinval,-svnapot,-svpbmt,-v,-xcvalu,-xcvbi,-xcvbitmanip,-xcvelw,-xcvmac,-xcvmem,-xcvsimd,-xsfcease,-xsfvcp,-xsfvfnrclipxfqf,-xsfvfwmaccqqq,-xsfvqmaccdod,-xsfvqmaccqoq,-xsifivecdiscarddlone,-xsifivecflushdlone,-xtheadba,-xtheadbb,-xtheadbs,-xtheadcmo,-xtheadcondmov,-xtheadfmemidx,-xtheadmac,-xtheadmemidx,-xtheadmempair,-xtheadsync,-xtheadvdot,-xventanacondops,-xwchc,-za128rs,-za64rs,-zaamo,-zabha,-zalrsc,-zama16b,-zawrs,-zba,-zbb,-zbc,-zbkb,-zbkc,-zbkx,-zbs,-zca,-zcb,-zcd,-zce,-zcf,-zcmop,-zcmp,-zcmt,-zdinx,-zfa,-zfbfmin,-zfh,-zfhmin,-zfinx,-zhinx,-zhinxmin,-zic64b,-zicbom,-zicbop,-zicboz,-ziccamoa,-ziccif,-zicclsm,-ziccrse,-zicntr,-zicond,-zicsr,-zifencei,-zihintntl,-zihintpause,-zihpm,-zimop,-zk,-zkn,-zknd,-zkne,-zknh,-zkr,-zks,-zksed,-zksh,-zkt,-ztso,-zvbb,-zvbc,-zve32f,-zve32x,-zve64d,-zve64f,-zve64x,-zvfbfmin,-zvfbfwma,-zvfh,-zvfhmin,-zvkb,-zvkg,-zvkn,-zvknc,-zvkned,-zvkng,-zvknha,-zvknhb,-zvks,-zvksc,-zvksed,-zvksg,-zvksh,-zvkt,-zvl1024b,-zvl128b,-zvl16384b,-zvl2048b,-zvl256b,-zvl32768b,-zvl32b,-zvl4096b,-zvl512b,-zvl64b,-zvl65536b,-zvl8192b" }
 attributes #1 = { nobuiltin "no-builtins" }
 
-!llvm.module.flags = !{!0, !1, !2, !3, !4, !5}
-!llvm.ident = !{!6}
+!llvm.module.flags = !{!0, !1, !2, !4, !5, !6, !7}
+!llvm.ident = !{!8}
 
 !0 = !{i32 1, !"wchar_size", i32 4}
 !1 = !{i32 1, !"target-abi", !"lp64"}
-!2 = !{i32 7, !"PIC Level", i32 2}
-!3 = !{i32 7, !"PIE Level", i32 2}
-!4 = !{i32 7, !"frame-pointer", i32 2}
-!5 = !{i32 1, !"SmallDataLimit", i32 8}
-!6 = !{!"Debian clang version 14.0.6"}
-!7 = distinct !{!7, !8}
-!8 = !{!"llvm.loop.mustprogress"}
-!9 = distinct !{!9, !8}
-!10 = distinct !{!10, !8}
-!11 = distinct !{!11, !8}
-!12 = distinct !{!12, !8}
-!13 = distinct !{!13, !8}
-!14 = distinct !{!14, !8}
-!15 = distinct !{!15, !8}
-!16 = distinct !{!16, !8}
-!17 = distinct !{!17, !8}
-!18 = distinct !{!18, !8}
-!19 = distinct !{!19, !8}
-!20 = distinct !{!20, !8}
-!21 = distinct !{!21, !8}
-!22 = distinct !{!22, !8}
-!23 = distinct !{!23, !8}
+!2 = !{i32 6, !"riscv-isa", !3}
+!3 = !{!"rv64i2p1_m2p0_zmmul1p0"}
+!4 = !{i32 8, !"PIC Level", i32 2}
+!5 = !{i32 7, !"PIE Level", i32 2}
+!6 = !{i32 7, !"frame-pointer", i32 2}
+!7 = !{i32 8, !"SmallDataLimit", i32 8}
+!8 = !{!"Debian clang version 19.1.7 (3~deb12u1)"}
+!9 = distinct !{!9, !10}
+!10 = !{!"llvm.loop.mustprogress"}
+!11 = distinct !{!11, !10}
+!12 = distinct !{!12, !10}
+!13 = distinct !{!13, !10}
+!14 = distinct !{!14, !10}
+!15 = distinct !{!15, !10}
+!16 = distinct !{!16, !10}
+!17 = distinct !{!17, !10}
+!18 = distinct !{!18, !10}
+!19 = distinct !{!19, !10}
+!20 = distinct !{!20, !10}
+!21 = distinct !{!21, !10}
+!22 = distinct !{!22, !10}
+!23 = distinct !{!23, !10}
+!24 = distinct !{!24, !10}
+!25 = distinct !{!25, !10}

@@ -1,122 +1,124 @@
 ; ModuleID = 'life.c'
 source_filename = "life.c"
-target datalayout = "e-m:e-p:64:64-i64:64-i128:128-n64-S128"
+target datalayout = "e-m:e-p:64:64-i64:64-i128:128-n32:64-S128"
 target triple = "riscv64-unknown-linux-gnu"
 
-; Function Attrs: nofree norecurse nosync nounwind readnone
+; Function Attrs: nofree norecurse nosync nounwind memory(none)
 define dso_local i64 @after(i64 noundef %0, i32 noundef signext %1) local_unnamed_addr #0 {
   %3 = icmp sgt i32 %1, 0
-  br i1 %3, label %7, label %63
+  br i1 %3, label %4, label %62
 
-4:                                                ; preds = %19
-  %5 = add nsw i32 %8, -1
-  %6 = icmp sgt i32 %8, 1
-  br i1 %6, label %7, label %63, !llvm.loop !6
+4:                                                ; preds = %2, %59
+  %5 = phi i32 [ %60, %59 ], [ %1, %2 ]
+  %6 = phi i64 [ %56, %59 ], [ %0, %2 ]
+  br label %7
 
-7:                                                ; preds = %2, %4
-  %8 = phi i32 [ %5, %4 ], [ %1, %2 ]
-  %9 = phi i64 [ %60, %4 ], [ %0, %2 ]
-  br label %10
+7:                                                ; preds = %16, %4
+  %8 = phi i64 [ 0, %4 ], [ %17, %16 ]
+  %9 = phi i64 [ 0, %4 ], [ %56, %16 ]
+  %10 = shl nuw nsw i64 %8, 3
+  %11 = trunc nuw nsw i64 %8 to i32
+  br label %12
 
-10:                                               ; preds = %19, %7
-  %11 = phi i64 [ 0, %7 ], [ %20, %19 ]
-  %12 = phi i64 [ 0, %7 ], [ %60, %19 ]
-  %13 = shl nsw i64 %11, 3
-  %14 = trunc i64 %11 to i32
-  br label %15
+12:                                               ; preds = %55, %7
+  %13 = phi i64 [ 0, %7 ], [ %57, %55 ]
+  %14 = phi i64 [ %9, %7 ], [ %56, %55 ]
+  %15 = trunc nuw nsw i64 %13 to i32
+  br label %19
 
-15:                                               ; preds = %59, %10
-  %16 = phi i64 [ 0, %10 ], [ %61, %59 ]
-  %17 = phi i64 [ %12, %10 ], [ %60, %59 ]
-  %18 = trunc i64 %16 to i32
-  br label %22
+16:                                               ; preds = %55
+  %17 = add nuw nsw i64 %8, 1
+  %18 = icmp eq i64 %17, 8
+  br i1 %18, label %59, label %7, !llvm.loop !8
 
-19:                                               ; preds = %59
-  %20 = add nuw nsw i64 %11, 1
-  %21 = icmp eq i64 %20, 8
-  br i1 %21, label %4, label %10
+19:                                               ; preds = %25, %12
+  %20 = phi i32 [ %26, %25 ], [ -1, %12 ]
+  %21 = phi i32 [ %43, %25 ], [ 0, %12 ]
+  %22 = add nsw i32 %20, %11
+  %23 = shl i32 %22, 3
+  %24 = and i32 %23, 56
+  br label %28
 
-22:                                               ; preds = %29, %15
-  %23 = phi i32 [ %30, %29 ], [ -1, %15 ]
-  %24 = phi i32 [ %47, %29 ], [ 0, %15 ]
-  %25 = icmp ne i32 %23, 0
-  %26 = add nsw i32 %23, %14
-  %27 = shl i32 %26, 3
-  %28 = and i32 %27, 56
-  br label %32
+25:                                               ; preds = %42
+  %26 = add nsw i32 %20, 1
+  %27 = icmp eq i32 %26, 2
+  br i1 %27, label %46, label %19, !llvm.loop !11
 
-29:                                               ; preds = %46
-  %30 = add nsw i32 %23, 1
-  %31 = icmp slt i32 %23, 1
-  br i1 %31, label %22, label %50, !llvm.loop !9
+28:                                               ; preds = %42, %19
+  %29 = phi i32 [ -1, %19 ], [ %44, %42 ]
+  %30 = phi i32 [ %21, %19 ], [ %43, %42 ]
+  %31 = or i32 %29, %20
+  %32 = icmp eq i32 %31, 0
+  br i1 %32, label %42, label %33
 
-32:                                               ; preds = %46, %22
-  %33 = phi i32 [ -1, %22 ], [ %48, %46 ]
-  %34 = phi i32 [ %24, %22 ], [ %47, %46 ]
-  %35 = icmp ne i32 %33, 0
-  %36 = select i1 %25, i1 true, i1 %35
-  br i1 %36, label %37, label %46
+33:                                               ; preds = %28
+  %34 = add nsw i32 %29, %15
+  %35 = and i32 %34, 7
+  %36 = or disjoint i32 %35, %24
+  %37 = zext nneg i32 %36 to i64
+  %38 = lshr i64 %6, %37
+  %39 = trunc i64 %38 to i32
+  %40 = and i32 %39, 1
+  %41 = add nsw i32 %40, %30
+  br label %42
 
-37:                                               ; preds = %32
-  %38 = add nsw i32 %33, %18
-  %39 = and i32 %38, 7
-  %40 = or i32 %39, %28
-  %41 = zext i32 %40 to i64
-  %42 = lshr i64 %9, %41
-  %43 = trunc i64 %42 to i32
-  %44 = and i32 %43, 1
-  %45 = add nsw i32 %44, %34
-  br label %46
+42:                                               ; preds = %33, %28
+  %43 = phi i32 [ %41, %33 ], [ %30, %28 ]
+  %44 = add nsw i32 %29, 1
+  %45 = icmp eq i32 %44, 2
+  br i1 %45, label %25, label %28, !llvm.loop !12
 
-46:                                               ; preds = %37, %32
-  %47 = phi i32 [ %45, %37 ], [ %34, %32 ]
-  %48 = add nsw i32 %33, 1
-  %49 = icmp slt i32 %33, 1
-  br i1 %49, label %32, label %29, !llvm.loop !10
-
-50:                                               ; preds = %29
-  %51 = add nuw nsw i64 %16, %13
-  switch i32 %47, label %59 [
-    i32 3, label %56
-    i32 2, label %52
+46:                                               ; preds = %25
+  %47 = add nuw nsw i64 %13, %10
+  switch i32 %43, label %55 [
+    i32 3, label %52
+    i32 2, label %48
   ]
 
-52:                                               ; preds = %50
-  %53 = shl i64 1, %51
-  %54 = and i64 %53, %9
-  %55 = icmp eq i64 %54, 0
-  br i1 %55, label %59, label %56
+48:                                               ; preds = %46
+  %49 = shl nuw i64 1, %47
+  %50 = and i64 %49, %6
+  %51 = icmp eq i64 %50, 0
+  br i1 %51, label %55, label %52
 
-56:                                               ; preds = %52, %50
-  %57 = shl i64 1, %51
-  %58 = or i64 %57, %17
-  br label %59
+52:                                               ; preds = %48, %46
+  %53 = shl nuw i64 1, %47
+  %54 = or i64 %53, %14
+  br label %55
 
-59:                                               ; preds = %56, %52, %50
-  %60 = phi i64 [ %58, %56 ], [ %17, %52 ], [ %17, %50 ]
-  %61 = add nuw nsw i64 %16, 1
-  %62 = icmp eq i64 %61, 8
-  br i1 %62, label %19, label %15, !llvm.loop !11
+55:                                               ; preds = %52, %48, %46
+  %56 = phi i64 [ %54, %52 ], [ %14, %48 ], [ %14, %46 ]
+  %57 = add nuw nsw i64 %13, 1
+  %58 = icmp eq i64 %57, 8
+  br i1 %58, label %16, label %12, !llvm.loop !13
 
-63:                                               ; preds = %4, %2
-  %64 = phi i64 [ %0, %2 ], [ %60, %4 ]
-  ret i64 %64
+59:                                               ; preds = %16
+  %60 = add nsw i32 %5, -1
+  %61 = icmp sgt i32 %5, 1
+  br i1 %61, label %4, label %62, !llvm.loop !14
+
+62:                                               ; preds = %59, %2
+  %63 = phi i64 [ %0, %2 ], [ %56, %59 ]
+  ret i64 %63
 }
 
-attributes #0 = { nofree norecurse nosync nounwind readnone "frame-pointer"="none" "min-legal-vector-width"="0" "no-builtins" "no-trapping-math"="true" "stack-protector-buffer-size"="8" "target-features"="+64bit,+m" }
+attributes #0 = { nofree norecurse nosync nounwind memory(none) "no-builtins" "no-trapping-math"="true" "stack-protector-buffer-size"="8" "target-cpu"="generic-rv64" "target-features"="+64bit,+m,+relax,+zmmul,-a,-b,-c,-d,-e,-experimental-smmpm,-experimental-smnpm,-experimental-ssnpm,-experimental-sspm,-experimental-ssqosid,-experimental-supm,-experimental-zacas,-experimental-zalasr,-experimental-zicfilp,-experimental-zicfiss,-f,-h,-shcounterenw,-shgatpa,-shtvala,-shvsatpa,-shvstvala,-shvstvecd,-smaia,-smcdeleg,-smcsrind,-smepmp,-smstateen,-ssaia,-ssccfg,-ssccptr,-sscofpmf,-sscounterenw,-sscsrind,-ssstateen,-ssstrict,-sstc,-sstvala,-sstvecd,-ssu64xl,-svade,-svadu,-svbare,-svinval,-svnapot,-svpbmt,-v,-xcvalu,-xcvbi,-xcvbitmanip,-xcvelw,-xcvmac,-xcvmem,-xcvsimd,-xsfcease,-xsfvcp,-xsfvfnrclipxfqf,-xsfvfwmaccqqq,-xsfvqmaccdod,-xsfvqmaccqoq,-xsifivecdiscarddlone,-xsifivecflushdlone,-xtheadba,-xtheadbb,-xtheadbs,-xtheadcmo,-xtheadcondmov,-xtheadfmemidx,-xtheadmac,-xtheadmemidx,-xtheadmempair,-xtheadsync,-xtheadvdot,-xventanacondops,-xwchc,-za128rs,-za64rs,-zaamo,-zabha,-zalrsc,-zama16b,-zawrs,-zba,-zbb,-zbc,-zbkb,-zbkc,-zbkx,-zbs,-zca,-zcb,-zcd,-zce,-zcf,-zcmop,-zcmp,-zcmt,-zdinx,-zfa,-zfbfmin,-zfh,-zfhmin,-zfinx,-zhinx,-zhinxmin,-zic64b,-zicbom,-zicbop,-zicboz,-ziccamoa,-ziccif,-zicclsm,-ziccrse,-zicntr,-zicond,-zicsr,-zifencei,-zihintntl,-zihintpause,-zihpm,-zimop,-zk,-zkn,-zknd,-zkne,-zknh,-zkr,-zks,-zksed,-zksh,-zkt,-ztso,-zvbb,-zvbc,-zve32f,-zve32x,-zve64d,-zve64f,-zve64x,-zvfbfmin,-zvfbfwma,-zvfh,-zvfhmin,-zvkb,-zvkg,-zvkn,-zvknc,-zvkned,-zvkng,-zvknha,-zvknhb,-zvks,-zvksc,-zvksed,-zvksg,-zvksh,-zvkt,-zvl1024b,-zvl128b,-zvl16384b,-zvl2048b,-zvl256b,-zvl32768b,-zvl32b,-zvl4096b,-zvl512b,-zvl64b,-zvl65536b,-zvl8192b" }
 
-!llvm.module.flags = !{!0, !1, !2, !3, !4}
-!llvm.ident = !{!5}
+!llvm.module.flags = !{!0, !1, !2, !4, !5, !6}
+!llvm.ident = !{!7}
 
 !0 = !{i32 1, !"wchar_size", i32 4}
 !1 = !{i32 1, !"target-abi", !"lp64"}
-!2 = !{i32 7, !"PIC Level", i32 2}
-!3 = !{i32 7, !"PIE Level", i32 2}
-!4 = !{i32 1, !"SmallDataLimit", i32 8}
-!5 = !{!"Debian clang version 14.0.6"}
-!6 = distinct !{!6, !7, !8}
-!7 = !{!"llvm.loop.mustprogress"}
-!8 = !{!"llvm.loop.unroll.disable"}
-!9 = distinct !{!9, !7, !8}
-!10 = distinct !{!10, !7, !8}
-!11 = distinct !{!11, !7, !8}
+!2 = !{i32 6, !"riscv-isa", !3}
+!3 = !{!"rv64i2p1_m2p0_zmmul1p0"}
+!4 = !{i32 8, !"PIC Level", i32 2}
+!5 = !{i32 7, !"PIE Level", i32 2}
+!6 = !{i32 8, !"SmallDataLimit", i32 8}
+!7 = !{!"Debian clang version 19.1.7 (3~deb12u1)"}
+!8 = distinct !{!8, !9, !10}
+!9 = !{!"llvm.loop.mustprogress"}
+!10 = !{!"llvm.loop.unroll.disable"}
+!11 = distinct !{!11, !9, !10}
+!12 = distinct !{!12, !9, !10}
+!13 = distinct !{!13, !9, !10}
+!14 = distinct !{!14, !9, !10}

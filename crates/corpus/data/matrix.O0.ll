@@ -1,6 +1,6 @@
 ; ModuleID = 'matrix.c'
 source_filename = "matrix.c"
-target datalayout = "e-m:e-p:64:64-i64:64-i128:128-n64-S128"
+target datalayout = "e-m:e-p:64:64-i64:64-i128:128-n32:64-S128"
 target triple = "riscv64-unknown-linux-gnu"
 
 %struct.two = type { [2 x [2 x i64]] }
@@ -47,7 +47,7 @@ define dso_local i64 @fibonacci(i32 noundef signext %0) #0 {
   %16 = load i32, ptr %2, align 4
   %17 = lshr i32 %16, 1
   store i32 %17, ptr %2, align 4
-  br label %6, !llvm.loop !7
+  br label %6, !llvm.loop !9
 
 18:                                               ; preds = %6
   %19 = getelementptr inbounds %struct.two, ptr %4, i32 0, i32 0
@@ -57,7 +57,7 @@ define dso_local i64 @fibonacci(i32 noundef signext %0) #0 {
   ret i64 %22
 }
 
-; Function Attrs: argmemonly nofree nounwind willreturn
+; Function Attrs: nocallback nofree nounwind willreturn memory(argmem: readwrite)
 declare void @llvm.memcpy.p0.p0.i64(ptr noalias nocapture writeonly, ptr noalias nocapture readonly, i64, i1 immarg) #1
 
 ; Function Attrs: noinline nounwind optnone
@@ -128,7 +128,7 @@ define internal void @by(ptr noundef %0, ptr noundef %1, ptr noundef %2) #0 {
   %45 = load i32, ptr %10, align 4
   %46 = add nsw i32 %45, 1
   store i32 %46, ptr %10, align 4
-  br label %19, !llvm.loop !9
+  br label %19, !llvm.loop !11
 
 47:                                               ; preds = %19
   %48 = load i64, ptr %9, align 8
@@ -147,7 +147,7 @@ define internal void @by(ptr noundef %0, ptr noundef %1, ptr noundef %2) #0 {
   %58 = load i32, ptr %8, align 4
   %59 = add nsw i32 %58, 1
   store i32 %59, ptr %8, align 4
-  br label %15, !llvm.loop !10
+  br label %15, !llvm.loop !12
 
 60:                                               ; preds = %15
   br label %61
@@ -156,7 +156,7 @@ define internal void @by(ptr noundef %0, ptr noundef %1, ptr noundef %2) #0 {
   %62 = load i32, ptr %7, align 4
   %63 = add nsw i32 %62, 1
   store i32 %63, ptr %7, align 4
-  br label %11, !llvm.loop !11
+  br label %11, !llvm.loop !13
 
 64:                                               ; preds = %11
   ret void
@@ -234,7 +234,7 @@ define dso_local signext i32 @trace_of_product() #0 {
   %48 = load i32, ptr %4, align 4
   %49 = add nsw i32 %48, 1
   store i32 %49, ptr %4, align 4
-  br label %20, !llvm.loop !12
+  br label %20, !llvm.loop !14
 
 50:                                               ; preds = %20
   br label %51
@@ -243,7 +243,7 @@ define dso_local signext i32 @trace_of_product() #0 {
   %52 = load i32, ptr %3, align 4
   %53 = add nsw i32 %52, 1
   store i32 %53, ptr %3, align 4
-  br label %10, !llvm.loop !13
+  br label %10, !llvm.loop !15
 
 54:                                               ; preds = %10
   br label %55
@@ -252,7 +252,7 @@ define dso_local signext i32 @trace_of_product() #0 {
   %56 = load i32, ptr %2, align 4
   %57 = add nsw i32 %56, 1
   store i32 %57, ptr %2, align 4
-  br label %6, !llvm.loop !14
+  br label %6, !llvm.loop !16
 
 58:                                               ; preds = %6
   store i32 0, ptr %5, align 4
@@ -280,7 +280,7 @@ define dso_local signext i32 @trace_of_product() #0 {
   %73 = load i32, ptr %5, align 4
   %74 = add nsw i32 %73, 1
   store i32 %74, ptr %5, align 4
-  br label %59, !llvm.loop !15
+  br label %59, !llvm.loop !17
 
 75:                                               ; preds = %59
   %76 = load i32, ptr %1, align 4
@@ -315,118 +315,116 @@ define dso_local i64 @circulant(i64 noundef %0, i64 noundef %1, i64 noundef %2) 
   store i64 %0, ptr %4, align 8
   store i64 %1, ptr %5, align 8
   store i64 %2, ptr %6, align 8
-  %8 = getelementptr inbounds [3 x [3 x i64]], ptr %7, i64 0, i64 0
-  %9 = getelementptr inbounds [3 x i64], ptr %8, i64 0, i64 0
-  %10 = load i64, ptr %4, align 8
+  %8 = load i64, ptr %4, align 8
+  store i64 %8, ptr %7, align 8
+  %9 = getelementptr inbounds i64, ptr %7, i64 1
+  %10 = load i64, ptr %5, align 8
   store i64 %10, ptr %9, align 8
-  %11 = getelementptr inbounds i64, ptr %9, i64 1
-  %12 = load i64, ptr %5, align 8
+  %11 = getelementptr inbounds i64, ptr %7, i64 2
+  %12 = load i64, ptr %6, align 8
   store i64 %12, ptr %11, align 8
-  %13 = getelementptr inbounds i64, ptr %11, i64 1
-  %14 = load i64, ptr %6, align 8
+  %13 = getelementptr inbounds [3 x i64], ptr %7, i64 1
+  %14 = load i64, ptr %5, align 8
   store i64 %14, ptr %13, align 8
-  %15 = getelementptr inbounds [3 x i64], ptr %8, i64 1
-  %16 = getelementptr inbounds [3 x i64], ptr %15, i64 0, i64 0
-  %17 = load i64, ptr %5, align 8
-  store i64 %17, ptr %16, align 8
-  %18 = getelementptr inbounds i64, ptr %16, i64 1
-  %19 = load i64, ptr %6, align 8
-  store i64 %19, ptr %18, align 8
-  %20 = getelementptr inbounds i64, ptr %18, i64 1
-  %21 = load i64, ptr %4, align 8
-  store i64 %21, ptr %20, align 8
-  %22 = getelementptr inbounds [3 x i64], ptr %15, i64 1
-  %23 = getelementptr inbounds [3 x i64], ptr %22, i64 0, i64 0
-  %24 = load i64, ptr %6, align 8
+  %15 = getelementptr inbounds i64, ptr %13, i64 1
+  %16 = load i64, ptr %6, align 8
+  store i64 %16, ptr %15, align 8
+  %17 = getelementptr inbounds i64, ptr %13, i64 2
+  %18 = load i64, ptr %4, align 8
+  store i64 %18, ptr %17, align 8
+  %19 = getelementptr inbounds [3 x i64], ptr %7, i64 2
+  %20 = load i64, ptr %6, align 8
+  store i64 %20, ptr %19, align 8
+  %21 = getelementptr inbounds i64, ptr %19, i64 1
+  %22 = load i64, ptr %4, align 8
+  store i64 %22, ptr %21, align 8
+  %23 = getelementptr inbounds i64, ptr %19, i64 2
+  %24 = load i64, ptr %5, align 8
   store i64 %24, ptr %23, align 8
-  %25 = getelementptr inbounds i64, ptr %23, i64 1
-  %26 = load i64, ptr %4, align 8
-  store i64 %26, ptr %25, align 8
-  %27 = getelementptr inbounds i64, ptr %25, i64 1
-  %28 = load i64, ptr %5, align 8
-  store i64 %28, ptr %27, align 8
-  %29 = getelementptr inbounds [3 x [3 x i64]], ptr %7, i64 0, i64 0
-  %30 = getelementptr inbounds [3 x i64], ptr %29, i64 0, i64 0
-  %31 = load i64, ptr %30, align 8
-  %32 = getelementptr inbounds [3 x [3 x i64]], ptr %7, i64 0, i64 1
-  %33 = getelementptr inbounds [3 x i64], ptr %32, i64 0, i64 1
-  %34 = load i64, ptr %33, align 8
-  %35 = getelementptr inbounds [3 x [3 x i64]], ptr %7, i64 0, i64 2
+  %25 = getelementptr inbounds [3 x [3 x i64]], ptr %7, i64 0, i64 0
+  %26 = getelementptr inbounds [3 x i64], ptr %25, i64 0, i64 0
+  %27 = load i64, ptr %26, align 8
+  %28 = getelementptr inbounds [3 x [3 x i64]], ptr %7, i64 0, i64 1
+  %29 = getelementptr inbounds [3 x i64], ptr %28, i64 0, i64 1
+  %30 = load i64, ptr %29, align 8
+  %31 = getelementptr inbounds [3 x [3 x i64]], ptr %7, i64 0, i64 2
+  %32 = getelementptr inbounds [3 x i64], ptr %31, i64 0, i64 2
+  %33 = load i64, ptr %32, align 8
+  %34 = mul nsw i64 %30, %33
+  %35 = getelementptr inbounds [3 x [3 x i64]], ptr %7, i64 0, i64 1
   %36 = getelementptr inbounds [3 x i64], ptr %35, i64 0, i64 2
   %37 = load i64, ptr %36, align 8
-  %38 = mul nsw i64 %34, %37
-  %39 = getelementptr inbounds [3 x [3 x i64]], ptr %7, i64 0, i64 1
-  %40 = getelementptr inbounds [3 x i64], ptr %39, i64 0, i64 2
-  %41 = load i64, ptr %40, align 8
-  %42 = getelementptr inbounds [3 x [3 x i64]], ptr %7, i64 0, i64 2
-  %43 = getelementptr inbounds [3 x i64], ptr %42, i64 0, i64 1
-  %44 = load i64, ptr %43, align 8
-  %45 = mul nsw i64 %41, %44
-  %46 = sub nsw i64 %38, %45
-  %47 = mul nsw i64 %31, %46
-  %48 = getelementptr inbounds [3 x [3 x i64]], ptr %7, i64 0, i64 0
-  %49 = getelementptr inbounds [3 x i64], ptr %48, i64 0, i64 1
-  %50 = load i64, ptr %49, align 8
-  %51 = getelementptr inbounds [3 x [3 x i64]], ptr %7, i64 0, i64 1
-  %52 = getelementptr inbounds [3 x i64], ptr %51, i64 0, i64 0
-  %53 = load i64, ptr %52, align 8
-  %54 = getelementptr inbounds [3 x [3 x i64]], ptr %7, i64 0, i64 2
+  %38 = getelementptr inbounds [3 x [3 x i64]], ptr %7, i64 0, i64 2
+  %39 = getelementptr inbounds [3 x i64], ptr %38, i64 0, i64 1
+  %40 = load i64, ptr %39, align 8
+  %41 = mul nsw i64 %37, %40
+  %42 = sub nsw i64 %34, %41
+  %43 = mul nsw i64 %27, %42
+  %44 = getelementptr inbounds [3 x [3 x i64]], ptr %7, i64 0, i64 0
+  %45 = getelementptr inbounds [3 x i64], ptr %44, i64 0, i64 1
+  %46 = load i64, ptr %45, align 8
+  %47 = getelementptr inbounds [3 x [3 x i64]], ptr %7, i64 0, i64 1
+  %48 = getelementptr inbounds [3 x i64], ptr %47, i64 0, i64 0
+  %49 = load i64, ptr %48, align 8
+  %50 = getelementptr inbounds [3 x [3 x i64]], ptr %7, i64 0, i64 2
+  %51 = getelementptr inbounds [3 x i64], ptr %50, i64 0, i64 2
+  %52 = load i64, ptr %51, align 8
+  %53 = mul nsw i64 %49, %52
+  %54 = getelementptr inbounds [3 x [3 x i64]], ptr %7, i64 0, i64 1
   %55 = getelementptr inbounds [3 x i64], ptr %54, i64 0, i64 2
   %56 = load i64, ptr %55, align 8
-  %57 = mul nsw i64 %53, %56
-  %58 = getelementptr inbounds [3 x [3 x i64]], ptr %7, i64 0, i64 1
-  %59 = getelementptr inbounds [3 x i64], ptr %58, i64 0, i64 2
-  %60 = load i64, ptr %59, align 8
-  %61 = getelementptr inbounds [3 x [3 x i64]], ptr %7, i64 0, i64 2
-  %62 = getelementptr inbounds [3 x i64], ptr %61, i64 0, i64 0
-  %63 = load i64, ptr %62, align 8
-  %64 = mul nsw i64 %60, %63
-  %65 = sub nsw i64 %57, %64
-  %66 = mul nsw i64 %50, %65
-  %67 = sub nsw i64 %47, %66
-  %68 = getelementptr inbounds [3 x [3 x i64]], ptr %7, i64 0, i64 0
-  %69 = getelementptr inbounds [3 x i64], ptr %68, i64 0, i64 2
-  %70 = load i64, ptr %69, align 8
-  %71 = getelementptr inbounds [3 x [3 x i64]], ptr %7, i64 0, i64 1
-  %72 = getelementptr inbounds [3 x i64], ptr %71, i64 0, i64 0
-  %73 = load i64, ptr %72, align 8
-  %74 = getelementptr inbounds [3 x [3 x i64]], ptr %7, i64 0, i64 2
+  %57 = getelementptr inbounds [3 x [3 x i64]], ptr %7, i64 0, i64 2
+  %58 = getelementptr inbounds [3 x i64], ptr %57, i64 0, i64 0
+  %59 = load i64, ptr %58, align 8
+  %60 = mul nsw i64 %56, %59
+  %61 = sub nsw i64 %53, %60
+  %62 = mul nsw i64 %46, %61
+  %63 = sub nsw i64 %43, %62
+  %64 = getelementptr inbounds [3 x [3 x i64]], ptr %7, i64 0, i64 0
+  %65 = getelementptr inbounds [3 x i64], ptr %64, i64 0, i64 2
+  %66 = load i64, ptr %65, align 8
+  %67 = getelementptr inbounds [3 x [3 x i64]], ptr %7, i64 0, i64 1
+  %68 = getelementptr inbounds [3 x i64], ptr %67, i64 0, i64 0
+  %69 = load i64, ptr %68, align 8
+  %70 = getelementptr inbounds [3 x [3 x i64]], ptr %7, i64 0, i64 2
+  %71 = getelementptr inbounds [3 x i64], ptr %70, i64 0, i64 1
+  %72 = load i64, ptr %71, align 8
+  %73 = mul nsw i64 %69, %72
+  %74 = getelementptr inbounds [3 x [3 x i64]], ptr %7, i64 0, i64 1
   %75 = getelementptr inbounds [3 x i64], ptr %74, i64 0, i64 1
   %76 = load i64, ptr %75, align 8
-  %77 = mul nsw i64 %73, %76
-  %78 = getelementptr inbounds [3 x [3 x i64]], ptr %7, i64 0, i64 1
-  %79 = getelementptr inbounds [3 x i64], ptr %78, i64 0, i64 1
-  %80 = load i64, ptr %79, align 8
-  %81 = getelementptr inbounds [3 x [3 x i64]], ptr %7, i64 0, i64 2
-  %82 = getelementptr inbounds [3 x i64], ptr %81, i64 0, i64 0
-  %83 = load i64, ptr %82, align 8
-  %84 = mul nsw i64 %80, %83
-  %85 = sub nsw i64 %77, %84
-  %86 = mul nsw i64 %70, %85
-  %87 = add nsw i64 %67, %86
-  ret i64 %87
+  %77 = getelementptr inbounds [3 x [3 x i64]], ptr %7, i64 0, i64 2
+  %78 = getelementptr inbounds [3 x i64], ptr %77, i64 0, i64 0
+  %79 = load i64, ptr %78, align 8
+  %80 = mul nsw i64 %76, %79
+  %81 = sub nsw i64 %73, %80
+  %82 = mul nsw i64 %66, %81
+  %83 = add nsw i64 %63, %82
+  ret i64 %83
 }
 
-attributes #0 = { noinline nounwind optnone "frame-pointer"="all" "min-legal-vector-width"="0" "no-builtins" "no-trapping-math"="true" "stack-protector-buffer-size"="8" "target-features"="+64bit,+m" }
-attributes #1 = { argmemonly nofree nounwind willreturn }
+attributes #0 = { noinline nounwind optnone "frame-pointer"="all" "no-builtins" "no-trapping-math"="true" "stack-protector-buffer-size"="8" "target-cpu"="generic-rv64" "target-features"="+64bit,+m,+relax,+zmmul,-a,-b,-c,-d,-e,-experimental-smmpm,-experimental-smnpm,-experimental-ssnpm,-experimental-sspm,-experimental-ssqosid,-experimental-supm,-experimental-zacas,-experimental-zalasr,-experimental-zicfilp,-experimental-zicfiss,-f,-h,-shcounterenw,-shgatpa,-shtvala,-shvsatpa,-shvstvala,-shvstvecd,-smaia,-smcdeleg,-smcsrind,-smepmp,-smstateen,-ssaia,-ssccfg,-ssccptr,-sscofpmf,-sscounterenw,-sscsrind,-ssstateen,-ssstrict,-sstc,-sstvala,-sstvecd,-ssu64xl,-svade,-svadu,-svbare,-svinval,-svnapot,-svpbmt,-v,-xcvalu,-xcvbi,-xcvbitmanip,-xcvelw,-xcvmac,-xcvmem,-xcvsimd,-xsfcease,-xsfvcp,-xsfvfnrclipxfqf,-xsfvfwmaccqqq,-xsfvqmaccdod,-xsfvqmaccqoq,-xsifivecdiscarddlone,-xsifivecflushdlone,-xtheadba,-xtheadbb,-xtheadbs,-xtheadcmo,-xtheadcondmov,-xtheadfmemidx,-xtheadmac,-xtheadmemidx,-xtheadmempair,-xtheadsync,-xtheadvdot,-xventanacondops,-xwchc,-za128rs,-za64rs,-zaamo,-zabha,-zalrsc,-zama16b,-zawrs,-zba,-zbb,-zbc,-zbkb,-zbkc,-zbkx,-zbs,-zca,-zcb,-zcd,-zce,-zcf,-zcmop,-zcmp,-zcmt,-zdinx,-zfa,-zfbfmin,-zfh,-zfhmin,-zfinx,-zhinx,-zhinxmin,-zic64b,-zicbom,-zicbop,-zicboz,-ziccamoa,-ziccif,-zicclsm,-ziccrse,-zicntr,-zicond,-zicsr,-zifencei,-zihintntl,-zihintpause,-zihpm,-zimop,-zk,-zkn,-zknd,-zkne,-zknh,-zkr,-zks,-zksed,-zksh,-zkt,-ztso,-zvbb,-zvbc,-zve32f,-zve32x,-zve64d,-zve64f,-zve64x,-zvfbfmin,-zvfbfwma,-zvfh,-zvfhmin,-zvkb,-zvkg,-zvkn,-zvknc,-zvkned,-zvkng,-zvknha,-zvknhb,-zvks,-zvksc,-zvksed,-zvksg,-zvksh,-zvkt,-zvl1024b,-zvl128b,-zvl16384b,-zvl2048b,-zvl256b,-zvl32768b,-zvl32b,-zvl4096b,-zvl512b,-zvl64b,-zvl65536b,-zvl8192b" }
+attributes #1 = { nocallback nofree nounwind willreturn memory(argmem: readwrite) }
 attributes #2 = { nobuiltin "no-builtins" }
 
-!llvm.module.flags = !{!0, !1, !2, !3, !4, !5}
-!llvm.ident = !{!6}
+!llvm.module.flags = !{!0, !1, !2, !4, !5, !6, !7}
+!llvm.ident = !{!8}
 
 !0 = !{i32 1, !"wchar_size", i32 4}
 !1 = !{i32 1, !"target-abi", !"lp64"}
-!2 = !{i32 7, !"PIC Level", i32 2}
-!3 = !{i32 7, !"PIE Level", i32 2}
-!4 = !{i32 7, !"frame-pointer", i32 2}
-!5 = !{i32 1, !"SmallDataLimit", i32 8}
-!6 = !{!"Debian clang version 14.0.6"}
-!7 = distinct !{!7, !8}
-!8 = !{!"llvm.loop.mustprogress"}
-!9 = distinct !{!9, !8}
-!10 = distinct !{!10, !8}
-!11 = distinct !{!11, !8}
-!12 = distinct !{!12, !8}
-!13 = distinct !{!13, !8}
-!14 = distinct !{!14, !8}
-!15 = distinct !{!15, !8}
+!2 = !{i32 6, !"riscv-isa", !3}
+!3 = !{!"rv64i2p1_m2p0_zmmul1p0"}
+!4 = !{i32 8, !"PIC Level", i32 2}
+!5 = !{i32 7, !"PIE Level", i32 2}
+!6 = !{i32 7, !"frame-pointer", i32 2}
+!7 = !{i32 8, !"SmallDataLimit", i32 8}
+!8 = !{!"Debian clang version 19.1.7 (3~deb12u1)"}
+!9 = distinct !{!9, !10}
+!10 = !{!"llvm.loop.mustprogress"}
+!11 = distinct !{!11, !10}
+!12 = distinct !{!12, !10}
+!13 = distinct !{!13, !10}
+!14 = distinct !{!14, !10}
+!15 = distinct !{!15, !10}
+!16 = distinct !{!16, !10}
+!17 = distinct !{!17, !10}

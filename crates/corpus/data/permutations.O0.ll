@@ -1,6 +1,6 @@
 ; ModuleID = 'permutations.c'
 source_filename = "permutations.c"
-target datalayout = "e-m:e-p:64:64-i64:64-i128:128-n64-S128"
+target datalayout = "e-m:e-p:64:64-i64:64-i128:128-n32:64-S128"
 target triple = "riscv64-unknown-linux-gnu"
 
 @order = internal global [8 x i8] zeroinitializer, align 1
@@ -25,7 +25,7 @@ define dso_local signext i32 @orders(i32 noundef signext %0) #0 {
   %10 = load i32, ptr %3, align 4
   %11 = add nsw i32 %10, 1
   store i32 %11, ptr %3, align 4
-  br label %5, !llvm.loop !7
+  br label %5, !llvm.loop !9
 
 12:                                               ; preds = %5
   %13 = load i32, ptr %3, align 4
@@ -59,7 +59,7 @@ define internal void @identity(i32 noundef signext %0) #0 {
   %15 = load i32, ptr %3, align 4
   %16 = add nsw i32 %15, 1
   store i32 %16, ptr %3, align 4
-  br label %4, !llvm.loop !9
+  br label %4, !llvm.loop !11
 
 17:                                               ; preds = %4
   ret void
@@ -111,7 +111,7 @@ define internal signext i32 @next(i32 noundef signext %0) #0 {
   %32 = load i32, ptr %4, align 4
   %33 = add nsw i32 %32, -1
   store i32 %33, ptr %4, align 4
-  br label %13, !llvm.loop !10
+  br label %13, !llvm.loop !12
 
 34:                                               ; preds = %29
   %35 = load i32, ptr %4, align 4
@@ -143,7 +143,7 @@ define internal signext i32 @next(i32 noundef signext %0) #0 {
   %52 = load i32, ptr %5, align 4
   %53 = add nsw i32 %52, -1
   store i32 %53, ptr %5, align 4
-  br label %39, !llvm.loop !11
+  br label %39, !llvm.loop !13
 
 54:                                               ; preds = %39
   %55 = load i32, ptr %4, align 4
@@ -206,7 +206,7 @@ define internal signext i32 @next(i32 noundef signext %0) #0 {
   %97 = load i32, ptr %8, align 4
   %98 = add nsw i32 %97, -1
   store i32 %98, ptr %8, align 4
-  br label %74, !llvm.loop !12
+  br label %74, !llvm.loop !14
 
 99:                                               ; preds = %74
   store i32 1, ptr %2, align 4
@@ -245,7 +245,7 @@ define dso_local signext i32 @order_number(i32 noundef signext %0, i32 noundef s
   br i1 %15, label %16, label %17
 
 16:                                               ; preds = %14
-  br label %6, !llvm.loop !13
+  br label %6, !llvm.loop !15
 
 17:                                               ; preds = %14
   %18 = load i32, ptr %3, align 4
@@ -285,7 +285,7 @@ define internal signext i32 @code(i32 noundef signext %0) #0 {
   %19 = load i32, ptr %4, align 4
   %20 = add nsw i32 %19, 1
   store i32 %20, ptr %4, align 4
-  br label %5, !llvm.loop !14
+  br label %5, !llvm.loop !16
 
 21:                                               ; preds = %5
   %22 = load i32, ptr %3, align 4
@@ -318,7 +318,7 @@ define dso_local signext i32 @even_ones(i32 noundef signext %0) #0 {
   %15 = load i32, ptr %2, align 4
   %16 = call signext i32 @next(i32 noundef signext %15) #1
   %17 = icmp ne i32 %16, 0
-  br i1 %17, label %5, label %18, !llvm.loop !15
+  br i1 %17, label %5, label %18, !llvm.loop !17
 
 18:                                               ; preds = %14
   %19 = load i32, ptr %3, align 4
@@ -376,7 +376,7 @@ define internal signext i32 @inversions(i32 noundef signext %0) #0 {
   %33 = load i32, ptr %5, align 4
   %34 = add nsw i32 %33, 1
   store i32 %34, ptr %5, align 4
-  br label %13, !llvm.loop !16
+  br label %13, !llvm.loop !18
 
 35:                                               ; preds = %13
   br label %36
@@ -385,7 +385,7 @@ define internal signext i32 @inversions(i32 noundef signext %0) #0 {
   %37 = load i32, ptr %4, align 4
   %38 = add nsw i32 %37, 1
   store i32 %38, ptr %4, align 4
-  br label %6, !llvm.loop !17
+  br label %6, !llvm.loop !19
 
 39:                                               ; preds = %6
   %40 = load i32, ptr %3, align 4
@@ -447,7 +447,7 @@ define dso_local signext i32 @subsets(i32 noundef signext %0, i32 noundef signex
   %32 = load i32, ptr %8, align 4
   %33 = add nsw i32 %32, 1
   store i32 %33, ptr %8, align 4
-  br label %15, !llvm.loop !18
+  br label %15, !llvm.loop !20
 
 34:                                               ; preds = %15
   %35 = load i32, ptr %7, align 4
@@ -468,36 +468,38 @@ define dso_local signext i32 @subsets(i32 noundef signext %0, i32 noundef signex
   %43 = load i32, ptr %6, align 4
   %44 = add nsw i32 %43, 1
   store i32 %44, ptr %6, align 4
-  br label %9, !llvm.loop !19
+  br label %9, !llvm.loop !21
 
 45:                                               ; preds = %9
   %46 = load i32, ptr %5, align 4
   ret i32 %46
 }
 
-attributes #0 = { noinline nounwind optnone "frame-pointer"="all" "min-legal-vector-width"="0" "no-builtins" "no-trapping-math"="true" "stack-protector-buffer-size"="8" "target-features"="+64bit,+m" }
+attributes #0 = { noinline nounwind optnone "frame-pointer"="all" "no-builtins" "no-trapping-math"="true" "stack-protector-buffer-size"="8" "target-cpu"="generic-rv64" "target-features"="+64bit,+m,+relax,+zmmul,-a,-b,-c,-d,-e,-experimental-smmpm,-experimental-smnpm,-experimental-ssnpm,-experimental-sspm,-experimental-ssqosid,-experimental-supm,-experimental-zacas,-experimental-zalasr,-experimental-zicfilp,-experimental-zicfiss,-f,-h,-shcounterenw,-shgatpa,-shtvala,-shvsatpa,-shvstvala,-shvstvecd,-smaia,-smcdeleg,-smcsrind,-smepmp,-smstateen,-ssaia,-ssccfg,-ssccptr,-sscofpmf,-sscounterenw,-sscsrind,-ssstateen,-ssstrict,-sstc,-sstvala,-sstvecd,-ssu64xl,-svade,-svadu,-svbare,-svinval,-svnapot,-svpbmt,-v,-xcvalu,-xcvbi,-xcvbitmanip,-xcvelw,-xcvmac,-xcvmem,-xcvsimd,-xsfcease,-xsfvcp,-xsfvfnrclipxfqf,-xsfvfwmaccqqq,-xsfvqmaccdod,-xsfvqmaccqoq,-xsifivecdiscarddlone,-xsifivecflushdlone,-xtheadba,-xtheadbb,-xtheadbs,-xtheadcmo,-xtheadcondmov,-xtheadfmemidx,-xtheadmac,-xtheadmemidx,-xtheadmempair,-xtheadsync,-xtheadvdot,-xventanacondops,-xwchc,-za128rs,-za64rs,-zaamo,-zabha,-zalrsc,-zama16b,-zawrs,-zba,-zbb,-zbc,-zbkb,-zbkc,-zbkx,-zbs,-zca,-zcb,-zcd,-zce,-zcf,-zcmop,-zcmp,-zcmt,-zdinx,-zfa,-zfbfmin,-zfh,-zfhmin,-zfinx,-zhinx,-zhinxmin,-zic64b,-zicbom,-zicbop,-zicboz,-ziccamoa,-ziccif,-zicclsm,-ziccrse,-zicntr,-zicond,-zicsr,-zifencei,-zihintntl,-zihintpause,-zihpm,-zimop,-zk,-zkn,-zknd,-zkne,-zknh,-zkr,-zks,-zksed,-zksh,-zkt,-ztso,-zvbb,-zvbc,-zve32f,-zve32x,-zve64d,-zve64f,-zve64x,-zvfbfmin,-zvfbfwma,-zvfh,-zvfhmin,-zvkb,-zvkg,-zvkn,-zvknc,-zvkned,-zvkng,-zvknha,-zvknhb,-zvks,-zvksc,-zvksed,-zvksg,-zvksh,-zvkt,-zvl1024b,-zvl128b,-zvl16384b,-zvl2048b,-zvl256b,-zvl32768b,-zvl32b,-zvl4096b,-zvl512b,-zvl64b,-zvl65536b,-zvl8192b" }
 attributes #1 = { nobuiltin "no-builtins" }
 
-!llvm.module.flags = !{!0, !1, !2, !3, !4, !5}
-!llvm.ident = !{!6}
+!llvm.module.flags = !{!0, !1, !2, !4, !5, !6, !7}
+!llvm.ident = !{!8}
 
 !0 = !{i32 1, !"wchar_size", i32 4}
 !1 = !{i32 1, !"target-abi", !"lp64"}
-!2 = !{i32 7, !"PIC Level", i32 2}
-!3 = !{i32 7, !"PIE Level", i32 2}
-!4 = !{i32 7, !"frame-pointer", i32 2}
-!5 = !{i32 1, !"SmallDataLimit", i32 8}
-!6 = !{!"Debian clang version 14.0.6"}
-!7 = distinct !{!7, !8}
-!8 = !{!"llvm.loop.mustprogress"}
-!9 = distinct !{!9, !8}
-!10 = distinct !{!10, !8}
-!11 = distinct !{!11, !8}
-!12 = distinct !{!12, !8}
-!13 = distinct !{!13, !8}
-!14 = distinct !{!14, !8}
-!15 = distinct !{!15, !8}
-!16 = distinct !{!16, !8}
-!17 = distinct !{!17, !8}
-!18 = distinct !{!18, !8}
-!19 = distinct !{!19, !8}
+!2 = !{i32 6, !"riscv-isa", !3}
+!3 = !{!"rv64i2p1_m2p0_zmmul1p0"}
+!4 = !{i32 8, !"PIC Level", i32 2}
+!5 = !{i32 7, !"PIE Level", i32 2}
+!6 = !{i32 7, !"frame-pointer", i32 2}
+!7 = !{i32 8, !"SmallDataLimit", i32 8}
+!8 = !{!"Debian clang version 19.1.7 (3~deb12u1)"}
+!9 = distinct !{!9, !10}
+!10 = !{!"llvm.loop.mustprogress"}
+!11 = distinct !{!11, !10}
+!12 = distinct !{!12, !10}
+!13 = distinct !{!13, !10}
+!14 = distinct !{!14, !10}
+!15 = distinct !{!15, !10}
+!16 = distinct !{!16, !10}
+!17 = distinct !{!17, !10}
+!18 = distinct !{!18, !10}
+!19 = distinct !{!19, !10}
+!20 = distinct !{!20, !10}
+!21 = distinct !{!21, !10}

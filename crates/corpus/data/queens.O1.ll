@@ -1,19 +1,19 @@
 ; ModuleID = 'queens.c'
 source_filename = "queens.c"
-target datalayout = "e-m:e-p:64:64-i64:64-i128:128-n64-S128"
+target datalayout = "e-m:e-p:64:64-i64:64-i128:128-n32:64-S128"
 target triple = "riscv64-unknown-linux-gnu"
 
 @at = internal unnamed_addr global [8 x i8] zeroinitializer, align 1
 
-; Function Attrs: nofree nosync nounwind readnone
+; Function Attrs: nofree nosync nounwind memory(none)
 define dso_local signext i32 @queens(i32 noundef signext %0) local_unnamed_addr #0 {
   %2 = shl nsw i32 -1, %0
   %3 = xor i32 %2, -1
-  %4 = call fastcc signext i32 @place(i32 noundef signext %3, i32 noundef signext 0, i32 noundef signext 0, i32 noundef signext 0) #2
+  %4 = tail call fastcc signext i32 @place(i32 noundef signext %3, i32 noundef signext 0, i32 noundef signext 0, i32 noundef signext 0) #2
   ret i32 %4
 }
 
-; Function Attrs: nofree nosync nounwind readnone
+; Function Attrs: nofree nosync nounwind memory(none)
 define internal fastcc signext i32 @place(i32 noundef signext %0, i32 noundef signext %1, i32 noundef signext %2, i32 noundef signext %3) unnamed_addr #0 {
   %5 = icmp eq i32 %1, %0
   br i1 %5, label %26, label %6
@@ -37,156 +37,156 @@ define internal fastcc signext i32 @place(i32 noundef signext %0, i32 noundef si
   %20 = shl i32 %19, 1
   %21 = or i32 %16, %3
   %22 = lshr i32 %21, 1
-  %23 = call fastcc signext i32 @place(i32 noundef signext %0, i32 noundef signext %18, i32 noundef signext %20, i32 noundef signext %22) #2
+  %23 = tail call fastcc signext i32 @place(i32 noundef signext %0, i32 noundef signext %18, i32 noundef signext %20, i32 noundef signext %22) #2
   %24 = add nsw i32 %23, %14
-  %25 = icmp eq i32 %17, 0
-  br i1 %25, label %26, label %12, !llvm.loop !6
+  %25 = icmp eq i32 %16, %13
+  br i1 %25, label %26, label %12, !llvm.loop !8
 
 26:                                               ; preds = %12, %6, %4
   %27 = phi i32 [ 1, %4 ], [ 0, %6 ], [ %24, %12 ]
   ret i32 %27
 }
 
-; Function Attrs: nofree norecurse nosync nounwind
+; Function Attrs: nofree norecurse nosync nounwind memory(readwrite, argmem: none, inaccessiblemem: none)
 define dso_local signext i32 @first_by_columns(i32 noundef signext %0) local_unnamed_addr #1 {
   %2 = icmp sgt i32 %0, 0
-  br i1 %2, label %3, label %14
+  br i1 %2, label %3, label %13
 
-3:                                                ; preds = %1, %66
-  %4 = phi i32 [ %68, %66 ], [ 0, %1 ]
-  %5 = phi i32 [ %67, %66 ], [ 0, %1 ]
+3:                                                ; preds = %1, %64
+  %4 = phi i32 [ %66, %64 ], [ 0, %1 ]
+  %5 = phi i32 [ %65, %64 ], [ 0, %1 ]
   %6 = icmp slt i32 %4, %0
-  br i1 %6, label %7, label %57
+  br i1 %6, label %7, label %55
 
 7:                                                ; preds = %3
-  %8 = icmp sgt i32 %5, 0
-  %9 = sext i32 %5 to i64
-  %10 = zext i32 %5 to i64
-  %11 = load i8, ptr getelementptr inbounds ([8 x i8], ptr @at, i64 0, i64 0), align 1
-  %12 = sext i8 %11 to i32
-  %13 = sub nsw i32 0, %5
-  br label %18
+  %8 = icmp slt i32 %5, 1
+  %9 = zext nneg i32 %5 to i64
+  %10 = load i8, ptr @at, align 1
+  %11 = sext i8 %10 to i32
+  %12 = sub i32 0, %5
+  br label %17
 
-14:                                               ; preds = %66, %1
-  %15 = icmp sgt i32 %0, 0
-  br i1 %15, label %16, label %80
+13:                                               ; preds = %64, %1
+  %14 = icmp sgt i32 %0, 0
+  br i1 %14, label %15, label %78
 
-16:                                               ; preds = %14
-  %17 = zext i32 %0 to i64
-  br label %70
+15:                                               ; preds = %13
+  %16 = zext nneg i32 %0 to i64
+  br label %68
 
-18:                                               ; preds = %7, %49
-  %19 = phi i32 [ %4, %7 ], [ %50, %49 ]
-  br i1 %8, label %20, label %47
+17:                                               ; preds = %7, %47
+  %18 = phi i32 [ %4, %7 ], [ %48, %47 ]
+  br i1 %8, label %45, label %19
 
-20:                                               ; preds = %18
-  %21 = sub nsw i32 %12, %19
-  %22 = icmp eq i32 %21, 0
-  %23 = icmp eq i32 %21, %5
-  %24 = select i1 %22, i1 true, i1 %23
-  %25 = icmp eq i32 %21, %13
-  %26 = select i1 %24, i1 true, i1 %25
-  br i1 %26, label %49, label %27
+19:                                               ; preds = %17
+  %20 = sub nsw i32 %11, %18
+  %21 = icmp eq i32 %18, %11
+  %22 = icmp eq i32 %20, %5
+  %23 = icmp eq i32 %20, %12
+  %24 = or i1 %22, %23
+  %25 = select i1 %21, i1 true, i1 %24
+  br i1 %25, label %47, label %26
 
-27:                                               ; preds = %20, %32
-  %28 = phi i64 [ %44, %32 ], [ 1, %20 ]
-  %29 = phi i32 [ %30, %32 ], [ 0, %20 ]
-  %30 = add nuw nsw i32 %29, 1
-  %31 = icmp eq i64 %28, %10
-  br i1 %31, label %45, label %32, !llvm.loop !9
+26:                                               ; preds = %19, %30
+  %27 = phi i64 [ %28, %30 ], [ 0, %19 ]
+  %28 = add nuw nsw i64 %27, 1
+  %29 = icmp eq i64 %28, %9
+  br i1 %29, label %43, label %30, !llvm.loop !11
 
-32:                                               ; preds = %27
-  %33 = getelementptr inbounds [8 x i8], ptr @at, i64 0, i64 %28
-  %34 = load i8, ptr %33, align 1, !tbaa !10
-  %35 = sext i8 %34 to i32
-  %36 = sub nsw i32 %35, %19
-  %37 = icmp eq i32 %36, 0
-  %38 = sub nsw i32 %5, %30
-  %39 = icmp eq i32 %36, %38
-  %40 = select i1 %37, i1 true, i1 %39
-  %41 = sub nsw i32 %30, %5
-  %42 = icmp eq i32 %36, %41
-  %43 = select i1 %40, i1 true, i1 %42
-  %44 = add nuw nsw i64 %28, 1
-  br i1 %43, label %45, label %27, !llvm.loop !9
+30:                                               ; preds = %26
+  %31 = getelementptr inbounds [8 x i8], ptr @at, i64 0, i64 %28
+  %32 = load i8, ptr %31, align 1, !tbaa !12
+  %33 = sext i8 %32 to i32
+  %34 = sub nsw i32 %33, %18
+  %35 = icmp eq i32 %18, %33
+  %36 = trunc i64 %28 to i32
+  %37 = sub i32 %5, %36
+  %38 = icmp eq i32 %34, %37
+  %39 = sub i32 %36, %5
+  %40 = icmp eq i32 %34, %39
+  %41 = or i1 %38, %40
+  %42 = select i1 %35, i1 true, i1 %41
+  br i1 %42, label %43, label %26, !llvm.loop !11
 
-45:                                               ; preds = %27, %32
-  %46 = icmp slt i64 %28, %9
-  br label %47
+43:                                               ; preds = %26, %30
+  %44 = icmp uge i64 %28, %9
+  br label %45
 
-47:                                               ; preds = %45, %18
-  %48 = phi i1 [ %8, %18 ], [ %46, %45 ]
-  br i1 %48, label %49, label %52
+45:                                               ; preds = %43, %17
+  %46 = phi i1 [ %8, %17 ], [ %44, %43 ]
+  br i1 %46, label %50, label %47
 
-49:                                               ; preds = %20, %47
-  %50 = add nsw i32 %19, 1
-  %51 = icmp slt i32 %50, %0
-  br i1 %51, label %18, label %57, !llvm.loop !13
+47:                                               ; preds = %19, %45
+  %48 = add i32 %18, 1
+  %49 = icmp eq i32 %48, %0
+  br i1 %49, label %55, label %17, !llvm.loop !15
 
-52:                                               ; preds = %47
-  %53 = trunc i32 %19 to i8
-  %54 = add nsw i32 %5, 1
-  %55 = sext i32 %5 to i64
-  %56 = getelementptr inbounds [8 x i8], ptr @at, i64 0, i64 %55
-  store i8 %53, ptr %56, align 1, !tbaa !10
-  br label %66
+50:                                               ; preds = %45
+  %51 = trunc i32 %18 to i8
+  %52 = add nsw i32 %5, 1
+  %53 = sext i32 %5 to i64
+  %54 = getelementptr inbounds [8 x i8], ptr @at, i64 0, i64 %53
+  store i8 %51, ptr %54, align 1, !tbaa !12
+  br label %64
 
-57:                                               ; preds = %49, %3
-  %58 = icmp eq i32 %5, 0
-  br i1 %58, label %80, label %59
+55:                                               ; preds = %47, %3
+  %56 = icmp eq i32 %5, 0
+  br i1 %56, label %78, label %57
 
-59:                                               ; preds = %57
-  %60 = add nsw i32 %5, -1
-  %61 = sext i32 %60 to i64
-  %62 = getelementptr inbounds [8 x i8], ptr @at, i64 0, i64 %61
-  %63 = load i8, ptr %62, align 1, !tbaa !10
-  %64 = sext i8 %63 to i32
-  %65 = add nsw i32 %64, 1
-  br label %66
+57:                                               ; preds = %55
+  %58 = add nsw i32 %5, -1
+  %59 = sext i32 %58 to i64
+  %60 = getelementptr inbounds [8 x i8], ptr @at, i64 0, i64 %59
+  %61 = load i8, ptr %60, align 1, !tbaa !12
+  %62 = sext i8 %61 to i32
+  %63 = add nsw i32 %62, 1
+  br label %64
 
-66:                                               ; preds = %59, %52
-  %67 = phi i32 [ %54, %52 ], [ %60, %59 ]
-  %68 = phi i32 [ 0, %52 ], [ %65, %59 ]
-  %69 = icmp slt i32 %67, %0
-  br i1 %69, label %3, label %14, !llvm.loop !14
+64:                                               ; preds = %57, %50
+  %65 = phi i32 [ %52, %50 ], [ %58, %57 ]
+  %66 = phi i32 [ 0, %50 ], [ %63, %57 ]
+  %67 = icmp slt i32 %65, %0
+  br i1 %67, label %3, label %13, !llvm.loop !16
 
-70:                                               ; preds = %16, %70
-  %71 = phi i64 [ 0, %16 ], [ %78, %70 ]
-  %72 = phi i32 [ 0, %16 ], [ %77, %70 ]
-  %73 = mul nsw i32 %72, 10
-  %74 = getelementptr inbounds [8 x i8], ptr @at, i64 0, i64 %71
-  %75 = load i8, ptr %74, align 1, !tbaa !10
-  %76 = sext i8 %75 to i32
-  %77 = add nsw i32 %73, %76
-  %78 = add nuw nsw i64 %71, 1
-  %79 = icmp eq i64 %78, %17
-  br i1 %79, label %80, label %70, !llvm.loop !15
+68:                                               ; preds = %15, %68
+  %69 = phi i64 [ 0, %15 ], [ %76, %68 ]
+  %70 = phi i32 [ 0, %15 ], [ %75, %68 ]
+  %71 = mul nsw i32 %70, 10
+  %72 = getelementptr inbounds [8 x i8], ptr @at, i64 0, i64 %69
+  %73 = load i8, ptr %72, align 1, !tbaa !12
+  %74 = sext i8 %73 to i32
+  %75 = add nsw i32 %71, %74
+  %76 = add nuw nsw i64 %69, 1
+  %77 = icmp eq i64 %76, %16
+  br i1 %77, label %78, label %68, !llvm.loop !17
 
-80:                                               ; preds = %57, %70, %14
-  %81 = phi i32 [ 0, %14 ], [ %77, %70 ], [ -1, %57 ]
-  ret i32 %81
+78:                                               ; preds = %55, %68, %13
+  %79 = phi i32 [ 0, %13 ], [ %75, %68 ], [ -1, %55 ]
+  ret i32 %79
 }
 
-attributes #0 = { nofree nosync nounwind readnone "frame-pointer"="none" "min-legal-vector-width"="0" "no-builtins" "no-trapping-math"="true" "stack-protector-buffer-size"="8" "target-features"="+64bit,+m" }
-attributes #1 = { nofree norecurse nosync nounwind "frame-pointer"="none" "min-legal-vector-width"="0" "no-builtins" "no-trapping-math"="true" "stack-protector-buffer-size"="8" "target-features"="+64bit,+m" }
+attributes #0 = { nofree nosync nounwind memory(none) "no-builtins" "no-trapping-math"="true" "stack-protector-buffer-size"="8" "target-cpu"="generic-rv64" "target-features"="+64bit,+m,+relax,+zmmul,-a,-b,-c,-d,-e,-experimental-smmpm,-experimental-smnpm,-experimental-ssnpm,-experimental-sspm,-experimental-ssqosid,-experimental-supm,-experimental-zacas,-experimental-zalasr,-experimental-zicfilp,-experimental-zicfiss,-f,-h,-shcounterenw,-shgatpa,-shtvala,-shvsatpa,-shvstvala,-shvstvecd,-smaia,-smcdeleg,-smcsrind,-smepmp,-smstateen,-ssaia,-ssccfg,-ssccptr,-sscofpmf,-sscounterenw,-sscsrind,-ssstateen,-ssstrict,-sstc,-sstvala,-sstvecd,-ssu64xl,-svade,-svadu,-svbare,-svinval,-svnapot,-svpbmt,-v,-xcvalu,-xcvbi,-xcvbitmanip,-xcvelw,-xcvmac,-xcvmem,-xcvsimd,-xsfcease,-xsfvcp,-xsfvfnrclipxfqf,-xsfvfwmaccqqq,-xsfvqmaccdod,-xsfvqmaccqoq,-xsifivecdiscarddlone,-xsifivecflushdlone,-xtheadba,-xtheadbb,-xtheadbs,-xtheadcmo,-xtheadcondmov,-xtheadfmemidx,-xtheadmac,-xtheadmemidx,-xtheadmempair,-xtheadsync,-xtheadvdot,-xventanacondops,-xwchc,-za128rs,-za64rs,-zaamo,-zabha,-zalrsc,-zama16b,-zawrs,-zba,-zbb,-zbc,-zbkb,-zbkc,-zbkx,-zbs,-zca,-zcb,-zcd,-zce,-zcf,-zcmop,-zcmp,-zcmt,-zdinx,-zfa,-zfbfmin,-zfh,-zfhmin,-zfinx,-zhinx,-zhinxmin,-zic64b,-zicbom,-zicbop,-zicboz,-ziccamoa,-ziccif,-zicclsm,-ziccrse,-zicntr,-zicond,-zicsr,-zifencei,-zihintntl,-zihintpause,-zihpm,-zimop,-zk,-zkn,-zknd,-zkne,-zknh,-zkr,-zks,-zksed,-zksh,-zkt,-ztso,-zvbb,-zvbc,-zve32f,-zve32x,-zve64d,-zve64f,-zve64x,-zvfbfmin,-zvfbfwma,-zvfh,-zvfhmin,-zvkb,-zvkg,-zvkn,-zvknc,-zvkned,-zvkng,-zvknha,-zvknhb,-zvks,-zvksc,-zvksed,-zvksg,-zvksh,-zvkt,-zvl1024b,-zvl128b,-zvl16384b,-zvl2048b,-zvl256b,-zvl32768b,-zvl32b,-zvl4096b,-zvl512b,-zvl64b,-zvl65536b,-zvl8192b" }
+attributes #1 = { nofree norecurse nosync nounwind memory(readwrite, argmem: none, inaccessiblemem: none) "no-builtins" "no-trapping-math"="true" "stack-protector-buffer-size"="8" "target-cpu"="generic-rv64" "target-features"="+64bit,+m,+relax,+zmmul,-a,-b,-c,-d,-e,-experimental-smmpm,-experimental-smnpm,-experimental-ssnpm,-experimental-sspm,-experimental-ssqosid,-experimental-supm,-experimental-zacas,-experimental-zalasr,-experimental-zicfilp,-experimental-zicfiss,-f,-h,-shcounterenw,-shgatpa,-shtvala,-shvsatpa,-shvstvala,-shvstvecd,-smaia,-smcdeleg,-smcsrind,-smepmp,-smstateen,-ssaia,-ssccfg,-ssccptr,-sscofpmf,-sscounterenw,-sscsrind,-ssstateen,-ssstrict,-sstc,-sstvala,-sstvecd,-ssu64xl,-svade,-svadu,-svbare,-svinval,-svnapot,-svpbmt,-v,-xcvalu,-xcvbi,-xcvbitmanip,-xcvelw,-xcvmac,-xcvmem,-xcvsimd,-xsfcease,-xsfvcp,-xsfvfnrclipxfqf,-xsfvfwmaccqqq,-xsfvqmaccdod,-xsfvqmaccqoq,-xsifivecdiscarddlone,-xsifivecflushdlone,-xtheadba,-xtheadbb,-xtheadbs,-xtheadcmo,-xtheadcondmov,-xtheadfmemidx,-xtheadmac,-xtheadmemidx,-xtheadmempair,-xtheadsync,-xtheadvdot,-xventanacondops,-xwchc,-za128rs,-za64rs,-zaamo,-zabha,-zalrsc,-zama16b,-zawrs,-zba,-zbb,-zbc,-zbkb,-zbkc,-zbkx,-zbs,-zca,-zcb,-zcd,-zce,-zcf,-zcmop,-zcmp,-zcmt,-zdinx,-zfa,-zfbfmin,-zfh,-zfhmin,-zfinx,-zhinx,-zhinxmin,-zic64b,-zicbom,-zicbop,-zicboz,-ziccamoa,-ziccif,-zicclsm,-ziccrse,-zicntr,-zicond,-zicsr,-zifencei,-zihintntl,-zihintpause,-zihpm,-zimop,-zk,-zkn,-zknd,-zkne,-zknh,-zkr,-zks,-zksed,-zksh,-zkt,-ztso,-zvbb,-zvbc,-zve32f,-zve32x,-zve64d,-zve64f,-zve64x,-zvfbfmin,-zvfbfwma,-zvfh,-zvfhmin,-zvkb,-zvkg,-zvkn,-zvknc,-zvkned,-zvkng,-zvknha,-zvknhb,-zvks,-zvksc,-zvksed,-zvksg,-zvksh,-zvkt,-zvl1024b,-zvl128b,-zvl16384b,-zvl2048b,-zvl256b,-zvl32768b,-zvl32b,-zvl4096b,-zvl512b,-zvl64b,-zvl65536b,-zvl8192b" }
 attributes #2 = { nobuiltin "no-builtins" }
 
-!llvm.module.flags = !{!0, !1, !2, !3, !4}
-!llvm.ident = !{!5}
+!llvm.module.flags = !{!0, !1, !2, !4, !5, !6}
+!llvm.ident = !{!7}
 
 !0 = !{i32 1, !"wchar_size", i32 4}
 !1 = !{i32 1, !"target-abi", !"lp64"}
-!2 = !{i32 7, !"PIC Level", i32 2}
-!3 = !{i32 7, !"PIE Level", i32 2}
-!4 = !{i32 1, !"SmallDataLimit", i32 8}
-!5 = !{!"Debian clang version 14.0.6"}
-!6 = distinct !{!6, !7, !8}
-!7 = !{!"llvm.loop.mustprogress"}
-!8 = !{!"llvm.loop.unroll.disable"}
-!9 = distinct !{!9, !7, !8}
-!10 = !{!11, !11, i64 0}
-!11 = !{!"omnipotent char", !12, i64 0}
-!12 = !{!"Simple C/C++ TBAA"}
-!13 = distinct !{!13, !7, !8}
-!14 = distinct !{!14, !7, !8}
-!15 = distinct !{!15, !7, !8}
+!2 = !{i32 6, !"riscv-isa", !3}
+!3 = !{!"rv64i2p1_m2p0_zmmul1p0"}
+!4 = !{i32 8, !"PIC Level", i32 2}
+!5 = !{i32 7, !"PIE Level", i32 2}
+!6 = !{i32 8, !"SmallDataLimit", i32 8}
+!7 = !{!"Debian clang version 19.1.7 (3~deb12u1)"}
+!8 = distinct !{!8, !9, !10}
+!9 = !{!"llvm.loop.mustprogress"}
+!10 = !{!"llvm.loop.unroll.disable"}
+!11 = distinct !{!11, !9, !10}
+!12 = !{!13, !13, i64 0}
+!13 = !{!"omnipotent char", !14, i64 0}
+!14 = !{!"Simple C/C++ TBAA"}
+!15 = distinct !{!15, !9, !10}
+!16 = distinct !{!16, !9, !10}
+!17 = distinct !{!17, !9, !10}

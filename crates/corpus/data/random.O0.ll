@@ -1,6 +1,6 @@
 ; ModuleID = 'random.c'
 source_filename = "random.c"
-target datalayout = "e-m:e-p:64:64-i64:64-i128:128-n64-S128"
+target datalayout = "e-m:e-p:64:64-i64:64-i128:128-n32:64-S128"
 target triple = "riscv64-unknown-linux-gnu"
 
 @state = internal global i64 42, align 8
@@ -36,7 +36,7 @@ define dso_local i64 @xorshift(i64 noundef %0, i32 noundef signext %1) #0 {
   %20 = load i64, ptr %3, align 8
   %21 = xor i64 %20, %19
   store i64 %21, ptr %3, align 8
-  br label %5, !llvm.loop !7
+  br label %5, !llvm.loop !9
 
 22:                                               ; preds = %5
   %23 = load i64, ptr %3, align 8
@@ -101,7 +101,7 @@ define dso_local zeroext i16 @lfsr(i16 noundef zeroext %0, i32 noundef signext %
   %40 = load i32, ptr %5, align 4
   %41 = add nsw i32 %40, 1
   store i32 %41, ptr %5, align 4
-  br label %7, !llvm.loop !9
+  br label %7, !llvm.loop !11
 
 42:                                               ; preds = %7
   %43 = load i16, ptr %3, align 2
@@ -141,7 +141,7 @@ define dso_local signext i32 @period(i32 noundef signext %0, i32 noundef signext
   %19 = load i32, ptr %10, align 4
   %20 = add nsw i32 %19, 1
   store i32 %20, ptr %10, align 4
-  br label %11, !llvm.loop !10
+  br label %11, !llvm.loop !12
 
 21:                                               ; preds = %11
   br label %22
@@ -171,7 +171,7 @@ define dso_local signext i32 @period(i32 noundef signext %0, i32 noundef signext
   %40 = load i32, ptr %9, align 4
   %41 = add nsw i32 %40, 1
   store i32 %41, ptr %9, align 4
-  br label %22, !llvm.loop !11
+  br label %22, !llvm.loop !13
 
 42:                                               ; preds = %22
   %43 = load i32, ptr %9, align 4
@@ -215,7 +215,7 @@ define dso_local i64 @counted(i32 noundef signext %0, i64 noundef %1) #0 {
   %22 = load i32, ptr %7, align 4
   %23 = add nsw i32 %22, 1
   store i32 %23, ptr %7, align 4
-  br label %10, !llvm.loop !12
+  br label %10, !llvm.loop !14
 
 24:                                               ; preds = %10
   store i32 0, ptr %8, align 4
@@ -242,14 +242,14 @@ define dso_local i64 @counted(i32 noundef signext %0, i64 noundef %1) #0 {
   %38 = load i32, ptr %8, align 4
   %39 = add nsw i32 %38, 1
   store i32 %39, ptr %8, align 4
-  br label %25, !llvm.loop !13
+  br label %25, !llvm.loop !15
 
 40:                                               ; preds = %25
   %41 = load i64, ptr %6, align 8
   ret i64 %41
 }
 
-; Function Attrs: argmemonly nofree nounwind willreturn writeonly
+; Function Attrs: nocallback nofree nounwind willreturn memory(argmem: write)
 declare void @llvm.memset.p0.i64(ptr nocapture writeonly, i8, i64, i1 immarg) #1
 
 ; Function Attrs: noinline nounwind optnone
@@ -270,24 +270,26 @@ define dso_local signext i32 @first_of_state() #0 {
   ret i32 %1
 }
 
-attributes #0 = { noinline nounwind optnone "frame-pointer"="all" "min-legal-vector-width"="0" "no-builtins" "no-trapping-math"="true" "stack-protector-buffer-size"="8" "target-features"="+64bit,+m" }
-attributes #1 = { argmemonly nofree nounwind willreturn writeonly }
+attributes #0 = { noinline nounwind optnone "frame-pointer"="all" "no-builtins" "no-trapping-math"="true" "stack-protector-buffer-size"="8" "target-cpu"="generic-rv64" "target-features"="+64bit,+m,+relax,+zmmul,-a,-b,-c,-d,-e,-experimental-smmpm,-experimental-smnpm,-experimental-ssnpm,-experimental-sspm,-experimental-ssqosid,-experimental-supm,-experimental-zacas,-experimental-zalasr,-experimental-zicfilp,-experimental-zicfiss,-f,-h,-shcounterenw,-shgatpa,-shtvala,-shvsatpa,-shvstvala,-shvstvecd,-smaia,-smcdeleg,-smcsrind,-smepmp,-smstateen,-ssaia,-ssccfg,-ssccptr,-sscofpmf,-sscounterenw,-sscsrind,-ssstateen,-ssstrict,-sstc,-sstvala,-sstvecd,-ssu64xl,-svade,-svadu,-svbare,-svinval,-svnapot,-svpbmt,-v,-xcvalu,-xcvbi,-xcvbitmanip,-xcvelw,-xcvmac,-xcvmem,-xcvsimd,-xsfcease,-xsfvcp,-xsfvfnrclipxfqf,-xsfvfwmaccqqq,-xsfvqmaccdod,-xsfvqmaccqoq,-xsifivecdiscarddlone,-xsifivecflushdlone,-xtheadba,-xtheadbb,-xtheadbs,-xtheadcmo,-xtheadcondmov,-xtheadfmemidx,-xtheadmac,-xtheadmemidx,-xtheadmempair,-xtheadsync,-xtheadvdot,-xventanacondops,-xwchc,-za128rs,-za64rs,-zaamo,-zabha,-zalrsc,-zama16b,-zawrs,-zba,-zbb,-zbc,-zbkb,-zbkc,-zbkx,-zbs,-zca,-zcb,-zcd,-zce,-zcf,-zcmop,-zcmp,-zcmt,-zdinx,-zfa,-zfbfmin,-zfh,-zfhmin,-zfinx,-zhinx,-zhinxmin,-zic64b,-zicbom,-zicbop,-zicboz,-ziccamoa,-ziccif,-zicclsm,-ziccrse,-zicntr,-zicond,-zicsr,-zifencei,-zihintntl,-zihintpause,-zihpm,-zimop,-zk,-zkn,-zknd,-zkne,-zknh,-zkr,-zks,-zksed,-zksh,-zkt,-ztso,-zvbb,-zvbc,-zve32f,-zve32x,-zve64d,-zve64f,-zve64x,-zvfbfmin,-zvfbfwma,-zvfh,-zvfhmin,-zvkb,-zvkg,-zvkn,-zvknc,-zvkned,-zvkng,-zvknha,-zvknhb,-zvks,-zvksc,-zvksed,-zvksg,-zvksh,-zvkt,-zvl1024b,-zvl128b,-zvl16384b,-zvl2048b,-zvl256b,-zvl32768b,-zvl32b,-zvl4096b,-zvl512b,-zvl64b,-zvl65536b,-zvl8192b" }
+attributes #1 = { nocallback nofree nounwind willreturn memory(argmem: write) }
 attributes #2 = { nobuiltin "no-builtins" }
 
-!llvm.module.flags = !{!0, !1, !2, !3, !4, !5}
-!llvm.ident = !{!6}
+!llvm.module.flags = !{!0, !1, !2, !4, !5, !6, !7}
+!llvm.ident = !{!8}
 
 !0 = !{i32 1, !"wchar_size", i32 4}
 !1 = !{i32 1, !"target-abi", !"lp64"}
-!2 = !{i32 7, !"PIC Level", i32 2}
-!3 = !{i32 7, !"PIE Level", i32 2}
-!4 = !{i32 7, !"frame-pointer", i32 2}
-!5 = !{i32 1, !"SmallDataLimit", i32 8}
-!6 = !{!"Debian clang version 14.0.6"}
-!7 = distinct !{!7, !8}
-!8 = !{!"llvm.loop.mustprogress"}
-!9 = distinct !{!9, !8}
-!10 = distinct !{!10, !8}
-!11 = distinct !{!11, !8}
-!12 = distinct !{!12, !8}
-!13 = distinct !{!13, !8}
+!2 = !{i32 6, !"riscv-isa", !3}
+!3 = !{!"rv64i2p1_m2p0_zmmul1p0"}
+!4 = !{i32 8, !"PIC Level", i32 2}
+!5 = !{i32 7, !"PIE Level", i32 2}
+!6 = !{i32 7, !"frame-pointer", i32 2}
+!7 = !{i32 8, !"SmallDataLimit", i32 8}
+!8 = !{!"Debian clang version 19.1.7 (3~deb12u1)"}
+!9 = distinct !{!9, !10}
+!10 = !{!"llvm.loop.mustprogress"}
+!11 = distinct !{!11, !10}
+!12 = distinct !{!12, !10}
+!13 = distinct !{!13, !10}
+!14 = distinct !{!14, !10}
+!15 = distinct !{!15, !10}

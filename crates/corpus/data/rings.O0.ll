@@ -1,6 +1,6 @@
 ; ModuleID = 'rings.c'
 source_filename = "rings.c"
-target datalayout = "e-m:e-p:64:64-i64:64-i128:128-n64-S128"
+target datalayout = "e-m:e-p:64:64-i64:64-i128:128-n32:64-S128"
 target triple = "riscv64-unknown-linux-gnu"
 
 %struct.ring = type { [8 x i32], i32, i32 }
@@ -74,7 +74,7 @@ define dso_local i64 @passed(i32 noundef signext %0, i32 noundef signext %1) #0 
   %36 = load i32, ptr %8, align 4
   %37 = add nsw i32 %36, 1
   store i32 %37, ptr %8, align 4
-  br label %9, !llvm.loop !7
+  br label %9, !llvm.loop !9
 
 38:                                               ; preds = %9
   br label %39
@@ -91,7 +91,7 @@ define dso_local i64 @passed(i32 noundef signext %0, i32 noundef signext %1) #0 
   %46 = sext i32 %45 to i64
   %47 = add nsw i64 %44, %46
   store i64 %47, ptr %5, align 8
-  br label %39, !llvm.loop !9
+  br label %39, !llvm.loop !11
 
 48:                                               ; preds = %39
   %49 = load i64, ptr %5, align 8
@@ -252,7 +252,7 @@ define dso_local i64 @happened(i32 noundef signext %0) #0 {
   br label %40
 
 40:                                               ; preds = %37, %16
-  br label %7, !llvm.loop !10
+  br label %7, !llvm.loop !12
 
 41:                                               ; preds = %14
   %42 = load i64, ptr %3, align 8
@@ -307,7 +307,7 @@ define internal void @plan(i32 noundef signext %0, i16 noundef signext %1) #0 {
   %33 = sub nsw i32 %32, 1
   %34 = sdiv i32 %33, 2
   store i32 %34, ptr %5, align 4
-  br label %8, !llvm.loop !11
+  br label %8, !llvm.loop !13
 
 35:                                               ; preds = %21
   %36 = load i32, ptr %3, align 4
@@ -330,7 +330,7 @@ define internal ptr @first() #0 {
   %1 = alloca %struct.event, align 4
   %2 = alloca i32, align 4
   %3 = alloca i32, align 4
-  call void @llvm.memcpy.p0.p0.i64(ptr align 4 @first.top, ptr align 4 getelementptr inbounds ([32 x %struct.event], ptr @heap, i64 0, i64 0), i64 8, i1 false)
+  call void @llvm.memcpy.p0.p0.i64(ptr align 4 @first.top, ptr align 4 @heap, i64 8, i1 false)
   %4 = load i32, ptr @many, align 4
   %5 = add nsw i32 %4, -1
   store i32 %5, ptr @many, align 4
@@ -415,25 +415,27 @@ define internal ptr @first() #0 {
   ret ptr @first.top
 }
 
-; Function Attrs: argmemonly nofree nounwind willreturn
+; Function Attrs: nocallback nofree nounwind willreturn memory(argmem: readwrite)
 declare void @llvm.memcpy.p0.p0.i64(ptr noalias nocapture writeonly, ptr noalias nocapture readonly, i64, i1 immarg) #1
 
-attributes #0 = { noinline nounwind optnone "frame-pointer"="all" "min-legal-vector-width"="0" "no-builtins" "no-trapping-math"="true" "stack-protector-buffer-size"="8" "target-features"="+64bit,+m" }
-attributes #1 = { argmemonly nofree nounwind willreturn }
+attributes #0 = { noinline nounwind optnone "frame-pointer"="all" "no-builtins" "no-trapping-math"="true" "stack-protector-buffer-size"="8" "target-cpu"="generic-rv64" "target-features"="+64bit,+m,+relax,+zmmul,-a,-b,-c,-d,-e,-experimental-smmpm,-experimental-smnpm,-experimental-ssnpm,-experimental-sspm,-experimental-ssqosid,-experimental-supm,-experimental-zacas,-experimental-zalasr,-experimental-zicfilp,-experimental-zicfiss,-f,-h,-shcounterenw,-shgatpa,-shtvala,-shvsatpa,-shvstvala,-shvstvecd,-smaia,-smcdeleg,-smcsrind,-smepmp,-smstateen,-ssaia,-ssccfg,-ssccptr,-sscofpmf,-sscounterenw,-sscsrind,-ssstateen,-ssstrict,-sstc,-sstvala,-sstvecd,-ssu64xl,-svade,-svadu,-svbare,-svinval,-svnapot,-svpbmt,-v,-xcvalu,-xcvbi,-xcvbitmanip,-xcvelw,-xcvmac,-xcvmem,-xcvsimd,-xsfcease,-xsfvcp,-xsfvfnrclipxfqf,-xsfvfwmaccqqq,-xsfvqmaccdod,-xsfvqmaccqoq,-xsifivecdiscarddlone,-xsifivecflushdlone,-xtheadba,-xtheadbb,-xtheadbs,-xtheadcmo,-xtheadcondmov,-xtheadfmemidx,-xtheadmac,-xtheadmemidx,-xtheadmempair,-xtheadsync,-xtheadvdot,-xventanacondops,-xwchc,-za128rs,-za64rs,-zaamo,-zabha,-zalrsc,-zama16b,-zawrs,-zba,-zbb,-zbc,-zbkb,-zbkc,-zbkx,-zbs,-zca,-zcb,-zcd,-zce,-zcf,-zcmop,-zcmp,-zcmt,-zdinx,-zfa,-zfbfmin,-zfh,-zfhmin,-zfinx,-zhinx,-zhinxmin,-zic64b,-zicbom,-zicbop,-zicboz,-ziccamoa,-ziccif,-zicclsm,-ziccrse,-zicntr,-zicond,-zicsr,-zifencei,-zihintntl,-zihintpause,-zihpm,-zimop,-zk,-zkn,-zknd,-zkne,-zknh,-zkr,-zks,-zksed,-zksh,-zkt,-ztso,-zvbb,-zvbc,-zve32f,-zve32x,-zve64d,-zve64f,-zve64x,-zvfbfmin,-zvfbfwma,-zvfh,-zvfhmin,-zvkb,-zvkg,-zvkn,-zvknc,-zvkned,-zvkng,-zvknha,-zvknhb,-zvks,-zvksc,-zvksed,-zvksg,-zvksh,-zvkt,-zvl1024b,-zvl128b,-zvl16384b,-zvl2048b,-zvl256b,-zvl32768b,-zvl32b,-zvl4096b,-zvl512b,-zvl64b,-zvl65536b,-zvl8192b" }
+attributes #1 = { nocallback nofree nounwind willreturn memory(argmem: readwrite) }
 attributes #2 = { nobuiltin "no-builtins" }
 
-!llvm.module.flags = !{!0, !1, !2, !3, !4, !5}
-!llvm.ident = !{!6}
+!llvm.module.flags = !{!0, !1, !2, !4, !5, !6, !7}
+!llvm.ident = !{!8}
 
 !0 = !{i32 1, !"wchar_size", i32 4}
 !1 = !{i32 1, !"target-abi", !"lp64"}
-!2 = !{i32 7, !"PIC Level", i32 2}
-!3 = !{i32 7, !"PIE Level", i32 2}
-!4 = !{i32 7, !"frame-pointer", i32 2}
-!5 = !{i32 1, !"SmallDataLimit", i32 8}
-!6 = !{!"Debian clang version 14.0.6"}
-!7 = distinct !{!7, !8}
-!8 = !{!"llvm.loop.mustprogress"}
-!9 = distinct !{!9, !8}
-!10 = distinct !{!10, !8}
-!11 = distinct !{!11, !8}
+!2 = !{i32 6, !"riscv-isa", !3}
+!3 = !{!"rv64i2p1_m2p0_zmmul1p0"}
+!4 = !{i32 8, !"PIC Level", i32 2}
+!5 = !{i32 7, !"PIE Level", i32 2}
+!6 = !{i32 7, !"frame-pointer", i32 2}
+!7 = !{i32 8, !"SmallDataLimit", i32 8}
+!8 = !{!"Debian clang version 19.1.7 (3~deb12u1)"}
+!9 = distinct !{!9, !10}
+!10 = !{!"llvm.loop.mustprogress"}
+!11 = distinct !{!11, !10}
+!12 = distinct !{!12, !10}
+!13 = distinct !{!13, !10}

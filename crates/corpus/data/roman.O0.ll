@@ -1,6 +1,6 @@
 ; ModuleID = 'roman.c'
 source_filename = "roman.c"
-target datalayout = "e-m:e-p:64:64-i64:64-i128:128-n64-S128"
+target datalayout = "e-m:e-p:64:64-i64:64-i128:128-n32:64-S128"
 target triple = "riscv64-unknown-linux-gnu"
 
 @text = internal global [20 x i8] zeroinitializer, align 1
@@ -87,7 +87,7 @@ define internal signext i32 @written(i32 noundef signext %0) #0 {
   %35 = load ptr, ptr %5, align 8
   %36 = getelementptr inbounds i8, ptr %35, i32 1
   store ptr %36, ptr %5, align 8
-  br label %23, !llvm.loop !7
+  br label %23, !llvm.loop !9
 
 37:                                               ; preds = %23
   %38 = load i32, ptr %4, align 4
@@ -98,7 +98,7 @@ define internal signext i32 @written(i32 noundef signext %0) #0 {
   %43 = load i32, ptr %2, align 4
   %44 = sub nsw i32 %43, %42
   store i32 %44, ptr %2, align 4
-  br label %10, !llvm.loop !9
+  br label %10, !llvm.loop !11
 
 45:                                               ; preds = %10
   br label %46
@@ -107,7 +107,7 @@ define internal signext i32 @written(i32 noundef signext %0) #0 {
   %47 = load i32, ptr %4, align 4
   %48 = add nsw i32 %47, 1
   store i32 %48, ptr %4, align 4
-  br label %6, !llvm.loop !10
+  br label %6, !llvm.loop !12
 
 49:                                               ; preds = %6
   %50 = load i32, ptr %3, align 4
@@ -128,7 +128,7 @@ define dso_local signext i32 @again(i32 noundef signext %0) #0 {
   store i32 0, ptr %3, align 4
   %6 = load i32, ptr %2, align 4
   %7 = call signext i32 @written(i32 noundef signext %6) #1
-  store ptr getelementptr inbounds ([20 x i8], ptr @text, i64 0, i64 0), ptr %4, align 8
+  store ptr @text, ptr %4, align 8
   br label %8
 
 8:                                                ; preds = %31, %1
@@ -170,7 +170,7 @@ define dso_local signext i32 @again(i32 noundef signext %0) #0 {
   %32 = load ptr, ptr %4, align 8
   %33 = getelementptr inbounds i8, ptr %32, i32 1
   store ptr %33, ptr %4, align 8
-  br label %8, !llvm.loop !11
+  br label %8, !llvm.loop !13
 
 34:                                               ; preds = %8
   %35 = load i32, ptr %3, align 4
@@ -240,7 +240,7 @@ define dso_local i64 @spelled(i32 noundef signext %0) #0 {
   store i64 0, ptr %3, align 8
   %5 = load i32, ptr %2, align 4
   %6 = call signext i32 @written(i32 noundef signext %5) #1
-  store ptr getelementptr inbounds ([20 x i8], ptr @text, i64 0, i64 0), ptr %4, align 8
+  store ptr @text, ptr %4, align 8
   br label %7
 
 7:                                                ; preds = %21, %1
@@ -266,29 +266,31 @@ define dso_local i64 @spelled(i32 noundef signext %0) #0 {
   %22 = load ptr, ptr %4, align 8
   %23 = getelementptr inbounds i8, ptr %22, i32 1
   store ptr %23, ptr %4, align 8
-  br label %7, !llvm.loop !12
+  br label %7, !llvm.loop !14
 
 24:                                               ; preds = %7
   %25 = load i64, ptr %3, align 8
   ret i64 %25
 }
 
-attributes #0 = { noinline nounwind optnone "frame-pointer"="all" "min-legal-vector-width"="0" "no-builtins" "no-trapping-math"="true" "stack-protector-buffer-size"="8" "target-features"="+64bit,+m" }
+attributes #0 = { noinline nounwind optnone "frame-pointer"="all" "no-builtins" "no-trapping-math"="true" "stack-protector-buffer-size"="8" "target-cpu"="generic-rv64" "target-features"="+64bit,+m,+relax,+zmmul,-a,-b,-c,-d,-e,-experimental-smmpm,-experimental-smnpm,-experimental-ssnpm,-experimental-sspm,-experimental-ssqosid,-experimental-supm,-experimental-zacas,-experimental-zalasr,-experimental-zicfilp,-experimental-zicfiss,-f,-h,-shcounterenw,-shgatpa,-shtvala,-shvsatpa,-shvstvala,-shvstvecd,-smaia,-smcdeleg,-smcsrind,-smepmp,-smstateen,-ssaia,-ssccfg,-ssccptr,-sscofpmf,-sscounterenw,-sscsrind,-ssstateen,-ssstrict,-sstc,-sstvala,-sstvecd,-ssu64xl,-svade,-svadu,-svbare,-svinval,-svnapot,-svpbmt,-v,-xcvalu,-xcvbi,-xcvbitmanip,-xcvelw,-xcvmac,-xcvmem,-xcvsimd,-xsfcease,-xsfvcp,-xsfvfnrclipxfqf,-xsfvfwmaccqqq,-xsfvqmaccdod,-xsfvqmaccqoq,-xsifivecdiscarddlone,-xsifivecflushdlone,-xtheadba,-xtheadbb,-xtheadbs,-xtheadcmo,-xtheadcondmov,-xtheadfmemidx,-xtheadmac,-xtheadmemidx,-xtheadmempair,-xtheadsync,-xtheadvdot,-xventanacondops,-xwchc,-za128rs,-za64rs,-zaamo,-zabha,-zalrsc,-zama16b,-zawrs,-zba,-zbb,-zbc,-zbkb,-zbkc,-zbkx,-zbs,-zca,-zcb,-zcd,-zce,-zcf,-zcmop,-zcmp,-zcmt,-zdinx,-zfa,-zfbfmin,-zfh,-zfhmin,-zfinx,-zhinx,-zhinxmin,-zic64b,-zicbom,-zicbop,-zicboz,-ziccamoa,-ziccif,-zicclsm,-ziccrse,-zicntr,-zicond,-zicsr,-zifencei,-zihintntl,-zihintpause,-zihpm,-zimop,-zk,-zkn,-zknd,-zkne,-zknh,-zkr,-zks,-zksed,-zksh,-zkt,-ztso,-zvbb,-zvbc,-zve32f,-zve32x,-zve64d,-zve64f,-zve64x,-zvfbfmin,-zvfbfwma,-zvfh,-zvfhmin,-zvkb,-zvkg,-zvkn,-zvknc,-zvkned,-zvkng,-zvknha,-zvknhb,-zvks,-zvksc,-zvksed,-zvksg,-zvksh,-zvkt,-zvl1024b,-zvl128b,-zvl16384b,-zvl2048b,-zvl256b,-zvl32768b,-zvl32b,-zvl4096b,-zvl512b,-zvl64b,-zvl65536b,-zvl8192b" }
 attributes #1 = { nobuiltin "no-builtins" }
 
-!llvm.module.flags = !{!0, !1, !2, !3, !4, !5}
-!llvm.ident = !{!6}
+!llvm.module.flags = !{!0, !1, !2, !4, !5, !6, !7}
+!llvm.ident = !{!8}
 
 !0 = !{i32 1, !"wchar_size", i32 4}
 !1 = !{i32 1, !"target-abi", !"lp64"}
-!2 = !{i32 7, !"PIC Level", i32 2}
-!3 = !{i32 7, !"PIE Level", i32 2}
-!4 = !{i32 7, !"frame-pointer", i32 2}
-!5 = !{i32 1, !"SmallDataLimit", i32 8}
-!6 = !{!"Debian clang version 14.0.6"}
-!7 = distinct !{!7, !8}
-!8 = !{!"llvm.loop.mustprogress"}
-!9 = distinct !{!9, !8}
-!10 = distinct !{!10, !8}
-!11 = distinct !{!11, !8}
-!12 = distinct !{!12, !8}
+!2 = !{i32 6, !"riscv-isa", !3}
+!3 = !{!"rv64i2p1_m2p0_zmmul1p0"}
+!4 = !{i32 8, !"PIC Level", i32 2}
+!5 = !{i32 7, !"PIE Level", i32 2}
+!6 = !{i32 7, !"frame-pointer", i32 2}
+!7 = !{i32 8, !"SmallDataLimit", i32 8}
+!8 = !{!"Debian clang version 19.1.7 (3~deb12u1)"}
+!9 = distinct !{!9, !10}
+!10 = !{!"llvm.loop.mustprogress"}
+!11 = distinct !{!11, !10}
+!12 = distinct !{!12, !10}
+!13 = distinct !{!13, !10}
+!14 = distinct !{!14, !10}

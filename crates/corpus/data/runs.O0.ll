@@ -1,6 +1,6 @@
 ; ModuleID = 'runs.c'
 source_filename = "runs.c"
-target datalayout = "e-m:e-p:64:64-i64:64-i128:128-n64-S128"
+target datalayout = "e-m:e-p:64:64-i64:64-i128:128-n32:64-S128"
 target triple = "riscv64-unknown-linux-gnu"
 
 @from = internal global [64 x i8] zeroinitializer, align 1
@@ -57,7 +57,7 @@ define internal void @fill(i32 noundef signext %0) #0 {
   %23 = load i32, ptr %3, align 4
   %24 = add nsw i32 %23, 1
   store i32 %24, ptr %3, align 4
-  br label %4, !llvm.loop !7
+  br label %4, !llvm.loop !9
 
 25:                                               ; preds = %4
   ret void
@@ -121,7 +121,7 @@ define internal signext i32 @pack(i32 noundef signext %0) #0 {
   %37 = load i32, ptr %5, align 4
   %38 = add nsw i32 %37, 1
   store i32 %38, ptr %5, align 4
-  br label %11, !llvm.loop !9
+  br label %11, !llvm.loop !11
 
 39:                                               ; preds = %34
   %40 = load i32, ptr %5, align 4
@@ -146,7 +146,7 @@ define internal signext i32 @pack(i32 noundef signext %0) #0 {
   %55 = load i32, ptr %4, align 4
   %56 = add nsw i32 %55, %54
   store i32 %56, ptr %4, align 4
-  br label %6, !llvm.loop !10
+  br label %6, !llvm.loop !12
 
 57:                                               ; preds = %6
   %58 = load i32, ptr %3, align 4
@@ -199,7 +199,7 @@ define dso_local signext i32 @comes_back(i32 noundef signext %0) #0 {
   %28 = load i32, ptr %5, align 4
   %29 = add nsw i32 %28, 1
   store i32 %29, ptr %5, align 4
-  br label %9, !llvm.loop !11
+  br label %9, !llvm.loop !13
 
 30:                                               ; preds = %9
   %31 = load i32, ptr %4, align 4
@@ -230,7 +230,7 @@ define internal signext i32 @unpack(i32 noundef signext %0) #0 {
 9:                                                ; preds = %5
   %10 = load i32, ptr %3, align 4
   %11 = sext i32 %10 to i64
-  %12 = getelementptr inbounds i8, ptr getelementptr inbounds ([64 x i8], ptr @to, i64 0, i64 0), i64 %11
+  %12 = getelementptr inbounds i8, ptr @to, i64 %11
   %13 = load i32, ptr %4, align 4
   %14 = add nsw i32 %13, 1
   %15 = sext i32 %14 to i64
@@ -258,7 +258,7 @@ define internal signext i32 @unpack(i32 noundef signext %0) #0 {
   %33 = load i32, ptr %4, align 4
   %34 = add nsw i32 %33, 2
   store i32 %34, ptr %4, align 4
-  br label %5, !llvm.loop !12
+  br label %5, !llvm.loop !14
 
 35:                                               ; preds = %5
   %36 = load i32, ptr %3, align 4
@@ -301,7 +301,7 @@ define dso_local i64 @moved(i32 noundef signext %0, i32 noundef signext %1, i32 
   %23 = load i32, ptr %9, align 4
   %24 = add nsw i32 %23, 1
   store i32 %24, ptr %9, align 4
-  br label %11, !llvm.loop !13
+  br label %11, !llvm.loop !15
 
 25:                                               ; preds = %11
   %26 = getelementptr inbounds [32 x i8], ptr %7, i64 0, i64 0
@@ -339,14 +339,14 @@ define dso_local i64 @moved(i32 noundef signext %0, i32 noundef signext %1, i32 
   %49 = load i32, ptr %10, align 4
   %50 = add nsw i32 %49, 1
   store i32 %50, ptr %10, align 4
-  br label %36, !llvm.loop !14
+  br label %36, !llvm.loop !16
 
 51:                                               ; preds = %36
   %52 = load i64, ptr %8, align 8
   ret i64 %52
 }
 
-; Function Attrs: argmemonly nofree nounwind willreturn
+; Function Attrs: nocallback nofree nounwind willreturn memory(argmem: readwrite)
 declare void @llvm.memmove.p0.p0.i64(ptr nocapture writeonly, ptr nocapture readonly, i64, i1 immarg) #1
 
 ; Function Attrs: noinline nounwind optnone
@@ -380,7 +380,7 @@ define dso_local i64 @cleared(i32 noundef signext %0) #0 {
   %18 = load i32, ptr %5, align 4
   %19 = add nsw i32 %18, 1
   store i32 %19, ptr %5, align 4
-  br label %7, !llvm.loop !15
+  br label %7, !llvm.loop !17
 
 20:                                               ; preds = %7
   %21 = getelementptr inbounds [8 x i64], ptr %3, i64 0, i64 0
@@ -412,38 +412,40 @@ define dso_local i64 @cleared(i32 noundef signext %0) #0 {
   %38 = load i32, ptr %6, align 4
   %39 = add nsw i32 %38, 1
   store i32 %39, ptr %6, align 4
-  br label %24, !llvm.loop !16
+  br label %24, !llvm.loop !18
 
 40:                                               ; preds = %24
   %41 = load i64, ptr %4, align 8
   ret i64 %41
 }
 
-; Function Attrs: argmemonly nofree nounwind willreturn writeonly
+; Function Attrs: nocallback nofree nounwind willreturn memory(argmem: write)
 declare void @llvm.memset.p0.i64(ptr nocapture writeonly, i8, i64, i1 immarg) #2
 
-attributes #0 = { noinline nounwind optnone "frame-pointer"="all" "min-legal-vector-width"="0" "no-builtins" "no-trapping-math"="true" "stack-protector-buffer-size"="8" "target-features"="+64bit,+m" }
-attributes #1 = { argmemonly nofree nounwind willreturn }
-attributes #2 = { argmemonly nofree nounwind willreturn writeonly }
+attributes #0 = { noinline nounwind optnone "frame-pointer"="all" "no-builtins" "no-trapping-math"="true" "stack-protector-buffer-size"="8" "target-cpu"="generic-rv64" "target-features"="+64bit,+m,+relax,+zmmul,-a,-b,-c,-d,-e,-experimental-smmpm,-experimental-smnpm,-experimental-ssnpm,-experimental-sspm,-experimental-ssqosid,-experimental-supm,-experimental-zacas,-experimental-zalasr,-experimental-zicfilp,-experimental-zicfiss,-f,-h,-shcounterenw,-shgatpa,-shtvala,-shvsatpa,-shvstvala,-shvstvecd,-smaia,-smcdeleg,-smcsrind,-smepmp,-smstateen,-ssaia,-ssccfg,-ssccptr,-sscofpmf,-sscounterenw,-sscsrind,-ssstateen,-ssstrict,-sstc,-sstvala,-sstvecd,-ssu64xl,-svade,-svadu,-svbare,-svinval,-svnapot,-svpbmt,-v,-xcvalu,-xcvbi,-xcvbitmanip,-xcvelw,-xcvmac,-xcvmem,-xcvsimd,-xsfcease,-xsfvcp,-xsfvfnrclipxfqf,-xsfvfwmaccqqq,-xsfvqmaccdod,-xsfvqmaccqoq,-xsifivecdiscarddlone,-xsifivecflushdlone,-xtheadba,-xtheadbb,-xtheadbs,-xtheadcmo,-xtheadcondmov,-xtheadfmemidx,-xtheadmac,-xtheadmemidx,-xtheadmempair,-xtheadsync,-xtheadvdot,-xventanacondops,-xwchc,-za128rs,-za64rs,-zaamo,-zabha,-zalrsc,-zama16b,-zawrs,-zba,-zbb,-zbc,-zbkb,-zbkc,-zbkx,-zbs,-zca,-zcb,-zcd,-zce,-zcf,-zcmop,-zcmp,-zcmt,-zdinx,-zfa,-zfbfmin,-zfh,-zfhmin,-zfinx,-zhinx,-zhinxmin,-zic64b,-zicbom,-zicbop,-zicboz,-ziccamoa,-ziccif,-zicclsm,-ziccrse,-zicntr,-zicond,-zicsr,-zifencei,-zihintntl,-zihintpause,-zihpm,-zimop,-zk,-zkn,-zknd,-zkne,-zknh,-zkr,-zks,-zksed,-zksh,-zkt,-ztso,-zvbb,-zvbc,-zve32f,-zve32x,-zve64d,-zve64f,-zve64x,-zvfbfmin,-zvfbfwma,-zvfh,-zvfhmin,-zvkb,-zvkg,-zvkn,-zvknc,-zvkned,-zvkng,-zvknha,-zvknhb,-zvks,-zvksc,-zvksed,-zvksg,-zvksh,-zvkt,-zvl1024b,-zvl128b,-zvl16384b,-zvl2048b,-zvl256b,-zvl32768b,-zvl32b,-zvl4096b,-zvl512b,-zvl64b,-zvl65536b,-zvl8192b" }
+attributes #1 = { nocallback nofree nounwind willreturn memory(argmem: readwrite) }
+attributes #2 = { nocallback nofree nounwind willreturn memory(argmem: write) }
 attributes #3 = { nobuiltin "no-builtins" }
 
-!llvm.module.flags = !{!0, !1, !2, !3, !4, !5}
-!llvm.ident = !{!6}
+!llvm.module.flags = !{!0, !1, !2, !4, !5, !6, !7}
+!llvm.ident = !{!8}
 
 !0 = !{i32 1, !"wchar_size", i32 4}
 !1 = !{i32 1, !"target-abi", !"lp64"}
-!2 = !{i32 7, !"PIC Level", i32 2}
-!3 = !{i32 7, !"PIE Level", i32 2}
-!4 = !{i32 7, !"frame-pointer", i32 2}
-!5 = !{i32 1, !"SmallDataLimit", i32 8}
-!6 = !{!"Debian clang version 14.0.6"}
-!7 = distinct !{!7, !8}
-!8 = !{!"llvm.loop.mustprogress"}
-!9 = distinct !{!9, !8}
-!10 = distinct !{!10, !8}
-!11 = distinct !{!11, !8}
-!12 = distinct !{!12, !8}
-!13 = distinct !{!13, !8}
-!14 = distinct !{!14, !8}
-!15 = distinct !{!15, !8}
-!16 = distinct !{!16, !8}
+!2 = !{i32 6, !"riscv-isa", !3}
+!3 = !{!"rv64i2p1_m2p0_zmmul1p0"}
+!4 = !{i32 8, !"PIC Level", i32 2}
+!5 = !{i32 7, !"PIE Level", i32 2}
+!6 = !{i32 7, !"frame-pointer", i32 2}
+!7 = !{i32 8, !"SmallDataLimit", i32 8}
+!8 = !{!"Debian clang version 19.1.7 (3~deb12u1)"}
+!9 = distinct !{!9, !10}
+!10 = !{!"llvm.loop.mustprogress"}
+!11 = distinct !{!11, !10}
+!12 = distinct !{!12, !10}
+!13 = distinct !{!13, !10}
+!14 = distinct !{!14, !10}
+!15 = distinct !{!15, !10}
+!16 = distinct !{!16, !10}
+!17 = distinct !{!17, !10}
+!18 = distinct !{!18, !10}

@@ -1,6 +1,6 @@
 ; ModuleID = 'sort.c'
 source_filename = "sort.c"
-target datalayout = "e-m:e-p:64:64-i64:64-i128:128-n64-S128"
+target datalayout = "e-m:e-p:64:64-i64:64-i128:128-n32:64-S128"
 target triple = "riscv64-unknown-linux-gnu"
 
 @xs = internal global [64 x i32] zeroinitializer, align 4
@@ -73,7 +73,7 @@ define dso_local i64 @insertion(i32 noundef signext %0, i32 noundef signext %1) 
   %43 = load i32, ptr %7, align 4
   %44 = add nsw i32 %43, -1
   store i32 %44, ptr %7, align 4
-  br label %21, !llvm.loop !7
+  br label %21, !llvm.loop !9
 
 45:                                               ; preds = %31
   %46 = load i32, ptr %6, align 4
@@ -88,7 +88,7 @@ define dso_local i64 @insertion(i32 noundef signext %0, i32 noundef signext %1) 
   %52 = load i32, ptr %5, align 4
   %53 = add nsw i32 %52, 1
   store i32 %53, ptr %5, align 4
-  br label %10, !llvm.loop !9
+  br label %10, !llvm.loop !11
 
 54:                                               ; preds = %10
   %55 = load i32, ptr %3, align 4
@@ -133,7 +133,7 @@ define internal void @fill(i32 noundef signext %0, i32 noundef signext %1) #0 {
   %23 = load i32, ptr %5, align 4
   %24 = add nsw i32 %23, 1
   store i32 %24, ptr %5, align 4
-  br label %7, !llvm.loop !10
+  br label %7, !llvm.loop !12
 
 25:                                               ; preds = %7
   ret void
@@ -194,7 +194,7 @@ define internal i64 @shown(i32 noundef signext %0) #0 {
   %38 = load i32, ptr %4, align 4
   %39 = add nsw i32 %38, 1
   store i32 %39, ptr %4, align 4
-  br label %5, !llvm.loop !11
+  br label %5, !llvm.loop !13
 
 40:                                               ; preds = %5
   %41 = load i64, ptr %3, align 8
@@ -272,7 +272,7 @@ define internal void @quick(i32 noundef signext %0, i32 noundef signext %1) #0 {
   %35 = load i32, ptr %6, align 4
   %36 = add nsw i32 %35, 1
   store i32 %36, ptr %6, align 4
-  br label %27, !llvm.loop !12
+  br label %27, !llvm.loop !14
 
 37:                                               ; preds = %27
   br label %38
@@ -290,7 +290,7 @@ define internal void @quick(i32 noundef signext %0, i32 noundef signext %1) #0 {
   %46 = load i32, ptr %7, align 4
   %47 = add nsw i32 %46, -1
   store i32 %47, ptr %7, align 4
-  br label %38, !llvm.loop !13
+  br label %38, !llvm.loop !15
 
 48:                                               ; preds = %38
   %49 = load i32, ptr %6, align 4
@@ -313,7 +313,7 @@ define internal void @quick(i32 noundef signext %0, i32 noundef signext %1) #0 {
   br label %61
 
 61:                                               ; preds = %52, %48
-  br label %22, !llvm.loop !14
+  br label %22, !llvm.loop !16
 
 62:                                               ; preds = %22
   %63 = load i32, ptr %3, align 4
@@ -360,7 +360,7 @@ define dso_local i64 @heapsort(i32 noundef signext %0, i32 noundef signext %1) #
   %19 = load i32, ptr %5, align 4
   %20 = add nsw i32 %19, -1
   store i32 %20, ptr %5, align 4
-  br label %12, !llvm.loop !15
+  br label %12, !llvm.loop !17
 
 21:                                               ; preds = %12
   %22 = load i32, ptr %3, align 4
@@ -377,7 +377,7 @@ define dso_local i64 @heapsort(i32 noundef signext %0, i32 noundef signext %1) #
   %28 = load i32, ptr %6, align 4
   %29 = sext i32 %28 to i64
   %30 = getelementptr inbounds [64 x i32], ptr @xs, i64 0, i64 %29
-  call void @swap(ptr noundef getelementptr inbounds ([64 x i32], ptr @xs, i64 0, i64 0), ptr noundef %30) #2
+  call void @swap(ptr noundef @xs, ptr noundef %30) #2
   %31 = load i32, ptr %6, align 4
   call void @sift(i32 noundef signext 0, i32 noundef signext %31) #2
   br label %32
@@ -386,7 +386,7 @@ define dso_local i64 @heapsort(i32 noundef signext %0, i32 noundef signext %1) #
   %33 = load i32, ptr %6, align 4
   %34 = add nsw i32 %33, -1
   store i32 %34, ptr %6, align 4
-  br label %24, !llvm.loop !16
+  br label %24, !llvm.loop !18
 
 35:                                               ; preds = %24
   %36 = load i32, ptr %3, align 4
@@ -610,7 +610,7 @@ define internal void @merge(i32 noundef signext %0, i32 noundef signext %1) #0 {
   %68 = load i32, ptr %8, align 4
   %69 = add nsw i32 %68, 1
   store i32 %69, ptr %8, align 4
-  br label %28, !llvm.loop !17
+  br label %28, !llvm.loop !19
 
 70:                                               ; preds = %28
   %71 = load i32, ptr %3, align 4
@@ -631,31 +631,33 @@ define internal void @merge(i32 noundef signext %0, i32 noundef signext %1) #0 {
   ret void
 }
 
-; Function Attrs: argmemonly nofree nounwind willreturn
+; Function Attrs: nocallback nofree nounwind willreturn memory(argmem: readwrite)
 declare void @llvm.memcpy.p0.p0.i64(ptr noalias nocapture writeonly, ptr noalias nocapture readonly, i64, i1 immarg) #1
 
-attributes #0 = { noinline nounwind optnone "frame-pointer"="all" "min-legal-vector-width"="0" "no-builtins" "no-trapping-math"="true" "stack-protector-buffer-size"="8" "target-features"="+64bit,+m" }
-attributes #1 = { argmemonly nofree nounwind willreturn }
+attributes #0 = { noinline nounwind optnone "frame-pointer"="all" "no-builtins" "no-trapping-math"="true" "stack-protector-buffer-size"="8" "target-cpu"="generic-rv64" "target-features"="+64bit,+m,+relax,+zmmul,-a,-b,-c,-d,-e,-experimental-smmpm,-experimental-smnpm,-experimental-ssnpm,-experimental-sspm,-experimental-ssqosid,-experimental-supm,-experimental-zacas,-experimental-zalasr,-experimental-zicfilp,-experimental-zicfiss,-f,-h,-shcounterenw,-shgatpa,-shtvala,-shvsatpa,-shvstvala,-shvstvecd,-smaia,-smcdeleg,-smcsrind,-smepmp,-smstateen,-ssaia,-ssccfg,-ssccptr,-sscofpmf,-sscounterenw,-sscsrind,-ssstateen,-ssstrict,-sstc,-sstvala,-sstvecd,-ssu64xl,-svade,-svadu,-svbare,-svinval,-svnapot,-svpbmt,-v,-xcvalu,-xcvbi,-xcvbitmanip,-xcvelw,-xcvmac,-xcvmem,-xcvsimd,-xsfcease,-xsfvcp,-xsfvfnrclipxfqf,-xsfvfwmaccqqq,-xsfvqmaccdod,-xsfvqmaccqoq,-xsifivecdiscarddlone,-xsifivecflushdlone,-xtheadba,-xtheadbb,-xtheadbs,-xtheadcmo,-xtheadcondmov,-xtheadfmemidx,-xtheadmac,-xtheadmemidx,-xtheadmempair,-xtheadsync,-xtheadvdot,-xventanacondops,-xwchc,-za128rs,-za64rs,-zaamo,-zabha,-zalrsc,-zama16b,-zawrs,-zba,-zbb,-zbc,-zbkb,-zbkc,-zbkx,-zbs,-zca,-zcb,-zcd,-zce,-zcf,-zcmop,-zcmp,-zcmt,-zdinx,-zfa,-zfbfmin,-zfh,-zfhmin,-zfinx,-zhinx,-zhinxmin,-zic64b,-zicbom,-zicbop,-zicboz,-ziccamoa,-ziccif,-zicclsm,-ziccrse,-zicntr,-zicond,-zicsr,-zifencei,-zihintntl,-zihintpause,-zihpm,-zimop,-zk,-zkn,-zknd,-zkne,-zknh,-zkr,-zks,-zksed,-zksh,-zkt,-ztso,-zvbb,-zvbc,-zve32f,-zve32x,-zve64d,-zve64f,-zve64x,-zvfbfmin,-zvfbfwma,-zvfh,-zvfhmin,-zvkb,-zvkg,-zvkn,-zvknc,-zvkned,-zvkng,-zvknha,-zvknhb,-zvks,-zvksc,-zvksed,-zvksg,-zvksh,-zvkt,-zvl1024b,-zvl128b,-zvl16384b,-zvl2048b,-zvl256b,-zvl32768b,-zvl32b,-zvl4096b,-zvl512b,-zvl64b,-zvl65536b,-zvl8192b" }
+attributes #1 = { nocallback nofree nounwind willreturn memory(argmem: readwrite) }
 attributes #2 = { nobuiltin "no-builtins" }
 
-!llvm.module.flags = !{!0, !1, !2, !3, !4, !5}
-!llvm.ident = !{!6}
+!llvm.module.flags = !{!0, !1, !2, !4, !5, !6, !7}
+!llvm.ident = !{!8}
 
 !0 = !{i32 1, !"wchar_size", i32 4}
 !1 = !{i32 1, !"target-abi", !"lp64"}
-!2 = !{i32 7, !"PIC Level", i32 2}
-!3 = !{i32 7, !"PIE Level", i32 2}
-!4 = !{i32 7, !"frame-pointer", i32 2}
-!5 = !{i32 1, !"SmallDataLimit", i32 8}
-!6 = !{!"Debian clang version 14.0.6"}
-!7 = distinct !{!7, !8}
-!8 = !{!"llvm.loop.mustprogress"}
-!9 = distinct !{!9, !8}
-!10 = distinct !{!10, !8}
-!11 = distinct !{!11, !8}
-!12 = distinct !{!12, !8}
-!13 = distinct !{!13, !8}
-!14 = distinct !{!14, !8}
-!15 = distinct !{!15, !8}
-!16 = distinct !{!16, !8}
-!17 = distinct !{!17, !8}
+!2 = !{i32 6, !"riscv-isa", !3}
+!3 = !{!"rv64i2p1_m2p0_zmmul1p0"}
+!4 = !{i32 8, !"PIC Level", i32 2}
+!5 = !{i32 7, !"PIE Level", i32 2}
+!6 = !{i32 7, !"frame-pointer", i32 2}
+!7 = !{i32 8, !"SmallDataLimit", i32 8}
+!8 = !{!"Debian clang version 19.1.7 (3~deb12u1)"}
+!9 = distinct !{!9, !10}
+!10 = !{!"llvm.loop.mustprogress"}
+!11 = distinct !{!11, !10}
+!12 = distinct !{!12, !10}
+!13 = distinct !{!13, !10}
+!14 = distinct !{!14, !10}
+!15 = distinct !{!15, !10}
+!16 = distinct !{!16, !10}
+!17 = distinct !{!17, !10}
+!18 = distinct !{!18, !10}
+!19 = distinct !{!19, !10}

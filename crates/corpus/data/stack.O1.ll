@@ -1,6 +1,6 @@
 ; ModuleID = 'stack.c'
 source_filename = "stack.c"
-target datalayout = "e-m:e-p:64:64-i64:64-i128:128-n64-S128"
+target datalayout = "e-m:e-p:64:64-i64:64-i128:128-n32:64-S128"
 target triple = "riscv64-unknown-linux-gnu"
 
 @programs = internal unnamed_addr constant [3 x ptr] [ptr @sums, ptr @countdown, ptr @cube], align 8
@@ -8,214 +8,214 @@ target triple = "riscv64-unknown-linux-gnu"
 @countdown = internal constant [9 x i8] c"\04\07\08\00\FF\01\06\00\0A", align 1
 @cube = internal constant [5 x i8] c"\04\04\03\03\0A", align 1
 
-; Function Attrs: nofree nosync nounwind readonly
+; Function Attrs: nofree norecurse nosync nounwind memory(read, inaccessiblemem: none)
 define dso_local i64 @ran(i32 noundef signext %0, i64 noundef %1, i32 noundef signext %2) local_unnamed_addr #0 {
   %4 = alloca [16 x i64], align 8
   %5 = icmp ugt i32 %0, 2
-  br i1 %5, label %120, label %6
+  br i1 %5, label %118, label %6
 
 6:                                                ; preds = %3
-  %7 = zext i32 %0 to i64
+  %7 = zext nneg i32 %0 to i64
   %8 = getelementptr inbounds [3 x ptr], ptr @programs, i64 0, i64 %7
-  %9 = load ptr, ptr %8, align 8, !tbaa !6
+  %9 = load ptr, ptr %8, align 8, !tbaa !8
   call void @llvm.lifetime.start.p0(i64 128, ptr nonnull %4) #2
-  %10 = getelementptr inbounds [16 x i64], ptr %4, i64 0, i64 0
-  store i64 %1, ptr %10, align 8, !tbaa !10
-  %11 = icmp sgt i32 %2, 0
-  br i1 %11, label %12, label %118
+  store i64 %1, ptr %4, align 8, !tbaa !12
+  %10 = icmp sgt i32 %2, 0
+  br i1 %10, label %11, label %116
 
-12:                                               ; preds = %6, %114
-  %13 = phi i32 [ %16, %114 ], [ %2, %6 ]
-  %14 = phi i32 [ %116, %114 ], [ 0, %6 ]
-  %15 = phi i32 [ %115, %114 ], [ 1, %6 ]
-  %16 = add nsw i32 %13, -1
-  %17 = add nsw i32 %14, 1
-  %18 = sext i32 %14 to i64
-  %19 = getelementptr inbounds i8, ptr %9, i64 %18
-  %20 = load i8, ptr %19, align 1, !tbaa !12
-  %21 = sext i8 %20 to i32
-  switch i32 %21, label %118 [
-    i32 0, label %22
-    i32 1, label %31
-    i32 2, label %41
-    i32 3, label %51
-    i32 4, label %61
-    i32 8, label %69
-    i32 9, label %77
-    i32 5, label %79
-    i32 6, label %88
-    i32 7, label %93
-    i32 10, label %106
+11:                                               ; preds = %6, %112
+  %12 = phi i32 [ %15, %112 ], [ %2, %6 ]
+  %13 = phi i32 [ %114, %112 ], [ 0, %6 ]
+  %14 = phi i32 [ %113, %112 ], [ 1, %6 ]
+  %15 = add nsw i32 %12, -1
+  %16 = add nsw i32 %13, 1
+  %17 = sext i32 %13 to i64
+  %18 = getelementptr inbounds i8, ptr %9, i64 %17
+  %19 = load i8, ptr %18, align 1, !tbaa !14
+  switch i8 %19, label %116 [
+    i8 0, label %20
+    i8 1, label %29
+    i8 2, label %39
+    i8 3, label %49
+    i8 4, label %59
+    i8 8, label %67
+    i8 9, label %75
+    i8 5, label %77
+    i8 6, label %86
+    i8 7, label %91
+    i8 10, label %104
   ]
 
-22:                                               ; preds = %12
-  %23 = add nsw i32 %14, 2
-  %24 = sext i32 %17 to i64
-  %25 = getelementptr inbounds i8, ptr %9, i64 %24
-  %26 = load i8, ptr %25, align 1, !tbaa !12
-  %27 = sext i8 %26 to i64
-  %28 = add nsw i32 %15, 1
-  %29 = sext i32 %15 to i64
-  %30 = getelementptr inbounds [16 x i64], ptr %4, i64 0, i64 %29
-  store i64 %27, ptr %30, align 8, !tbaa !10
-  br label %114
+20:                                               ; preds = %11
+  %21 = add nsw i32 %13, 2
+  %22 = sext i32 %16 to i64
+  %23 = getelementptr inbounds i8, ptr %9, i64 %22
+  %24 = load i8, ptr %23, align 1, !tbaa !14
+  %25 = sext i8 %24 to i64
+  %26 = add nsw i32 %14, 1
+  %27 = sext i32 %14 to i64
+  %28 = getelementptr inbounds [16 x i64], ptr %4, i64 0, i64 %27
+  store i64 %25, ptr %28, align 8, !tbaa !12
+  br label %112
 
-31:                                               ; preds = %12
-  %32 = add nsw i32 %15, -1
-  %33 = sext i32 %32 to i64
-  %34 = getelementptr inbounds [16 x i64], ptr %4, i64 0, i64 %33
-  %35 = load i64, ptr %34, align 8, !tbaa !10
-  %36 = add nsw i32 %15, -2
-  %37 = sext i32 %36 to i64
-  %38 = getelementptr inbounds [16 x i64], ptr %4, i64 0, i64 %37
-  %39 = load i64, ptr %38, align 8, !tbaa !10
-  %40 = add nsw i64 %39, %35
-  store i64 %40, ptr %38, align 8, !tbaa !10
-  br label %114
+29:                                               ; preds = %11
+  %30 = add nsw i32 %14, -1
+  %31 = sext i32 %30 to i64
+  %32 = getelementptr inbounds [16 x i64], ptr %4, i64 0, i64 %31
+  %33 = load i64, ptr %32, align 8, !tbaa !12
+  %34 = add nsw i32 %14, -2
+  %35 = sext i32 %34 to i64
+  %36 = getelementptr inbounds [16 x i64], ptr %4, i64 0, i64 %35
+  %37 = load i64, ptr %36, align 8, !tbaa !12
+  %38 = add nsw i64 %37, %33
+  store i64 %38, ptr %36, align 8, !tbaa !12
+  br label %112
 
-41:                                               ; preds = %12
-  %42 = add nsw i32 %15, -1
-  %43 = sext i32 %42 to i64
-  %44 = getelementptr inbounds [16 x i64], ptr %4, i64 0, i64 %43
-  %45 = load i64, ptr %44, align 8, !tbaa !10
-  %46 = add nsw i32 %15, -2
-  %47 = sext i32 %46 to i64
-  %48 = getelementptr inbounds [16 x i64], ptr %4, i64 0, i64 %47
-  %49 = load i64, ptr %48, align 8, !tbaa !10
-  %50 = sub nsw i64 %49, %45
-  store i64 %50, ptr %48, align 8, !tbaa !10
-  br label %114
+39:                                               ; preds = %11
+  %40 = add nsw i32 %14, -1
+  %41 = sext i32 %40 to i64
+  %42 = getelementptr inbounds [16 x i64], ptr %4, i64 0, i64 %41
+  %43 = load i64, ptr %42, align 8, !tbaa !12
+  %44 = add nsw i32 %14, -2
+  %45 = sext i32 %44 to i64
+  %46 = getelementptr inbounds [16 x i64], ptr %4, i64 0, i64 %45
+  %47 = load i64, ptr %46, align 8, !tbaa !12
+  %48 = sub nsw i64 %47, %43
+  store i64 %48, ptr %46, align 8, !tbaa !12
+  br label %112
 
-51:                                               ; preds = %12
-  %52 = add nsw i32 %15, -1
-  %53 = sext i32 %52 to i64
-  %54 = getelementptr inbounds [16 x i64], ptr %4, i64 0, i64 %53
-  %55 = load i64, ptr %54, align 8, !tbaa !10
-  %56 = add nsw i32 %15, -2
-  %57 = sext i32 %56 to i64
-  %58 = getelementptr inbounds [16 x i64], ptr %4, i64 0, i64 %57
-  %59 = load i64, ptr %58, align 8, !tbaa !10
-  %60 = mul nsw i64 %59, %55
-  store i64 %60, ptr %58, align 8, !tbaa !10
-  br label %114
+49:                                               ; preds = %11
+  %50 = add nsw i32 %14, -1
+  %51 = sext i32 %50 to i64
+  %52 = getelementptr inbounds [16 x i64], ptr %4, i64 0, i64 %51
+  %53 = load i64, ptr %52, align 8, !tbaa !12
+  %54 = add nsw i32 %14, -2
+  %55 = sext i32 %54 to i64
+  %56 = getelementptr inbounds [16 x i64], ptr %4, i64 0, i64 %55
+  %57 = load i64, ptr %56, align 8, !tbaa !12
+  %58 = mul nsw i64 %57, %53
+  store i64 %58, ptr %56, align 8, !tbaa !12
+  br label %112
 
-61:                                               ; preds = %12
-  %62 = add nsw i32 %15, -1
-  %63 = sext i32 %62 to i64
-  %64 = getelementptr inbounds [16 x i64], ptr %4, i64 0, i64 %63
-  %65 = load i64, ptr %64, align 8, !tbaa !10
-  %66 = sext i32 %15 to i64
-  %67 = getelementptr inbounds [16 x i64], ptr %4, i64 0, i64 %66
-  store i64 %65, ptr %67, align 8, !tbaa !10
-  %68 = add nsw i32 %15, 1
-  br label %114
+59:                                               ; preds = %11
+  %60 = add nsw i32 %14, -1
+  %61 = sext i32 %60 to i64
+  %62 = getelementptr inbounds [16 x i64], ptr %4, i64 0, i64 %61
+  %63 = load i64, ptr %62, align 8, !tbaa !12
+  %64 = sext i32 %14 to i64
+  %65 = getelementptr inbounds [16 x i64], ptr %4, i64 0, i64 %64
+  store i64 %63, ptr %65, align 8, !tbaa !12
+  %66 = add nsw i32 %14, 1
+  br label %112
 
-69:                                               ; preds = %12
-  %70 = add nsw i32 %15, -2
-  %71 = sext i32 %70 to i64
-  %72 = getelementptr inbounds [16 x i64], ptr %4, i64 0, i64 %71
-  %73 = load i64, ptr %72, align 8, !tbaa !10
-  %74 = sext i32 %15 to i64
-  %75 = getelementptr inbounds [16 x i64], ptr %4, i64 0, i64 %74
-  store i64 %73, ptr %75, align 8, !tbaa !10
-  %76 = add nsw i32 %15, 1
-  br label %114
+67:                                               ; preds = %11
+  %68 = add nsw i32 %14, -2
+  %69 = sext i32 %68 to i64
+  %70 = getelementptr inbounds [16 x i64], ptr %4, i64 0, i64 %69
+  %71 = load i64, ptr %70, align 8, !tbaa !12
+  %72 = sext i32 %14 to i64
+  %73 = getelementptr inbounds [16 x i64], ptr %4, i64 0, i64 %72
+  store i64 %71, ptr %73, align 8, !tbaa !12
+  %74 = add nsw i32 %14, 1
+  br label %112
 
-77:                                               ; preds = %12
-  %78 = add nsw i32 %15, -1
-  br label %114
+75:                                               ; preds = %11
+  %76 = add nsw i32 %14, -1
+  br label %112
 
-79:                                               ; preds = %12
-  %80 = add nsw i32 %15, -1
-  %81 = sext i32 %80 to i64
-  %82 = getelementptr inbounds [16 x i64], ptr %4, i64 0, i64 %81
-  %83 = load i64, ptr %82, align 8, !tbaa !10
-  %84 = add nsw i32 %15, -2
-  %85 = sext i32 %84 to i64
-  %86 = getelementptr inbounds [16 x i64], ptr %4, i64 0, i64 %85
-  %87 = load i64, ptr %86, align 8, !tbaa !10
-  store i64 %87, ptr %82, align 8, !tbaa !10
-  store i64 %83, ptr %86, align 8, !tbaa !10
-  br label %114
+77:                                               ; preds = %11
+  %78 = add nsw i32 %14, -1
+  %79 = sext i32 %78 to i64
+  %80 = getelementptr inbounds [16 x i64], ptr %4, i64 0, i64 %79
+  %81 = load i64, ptr %80, align 8, !tbaa !12
+  %82 = add nsw i32 %14, -2
+  %83 = sext i32 %82 to i64
+  %84 = getelementptr inbounds [16 x i64], ptr %4, i64 0, i64 %83
+  %85 = load i64, ptr %84, align 8, !tbaa !12
+  store i64 %85, ptr %80, align 8, !tbaa !12
+  store i64 %81, ptr %84, align 8, !tbaa !12
+  br label %112
 
-88:                                               ; preds = %12
-  %89 = sext i32 %17 to i64
-  %90 = getelementptr inbounds i8, ptr %9, i64 %89
-  %91 = load i8, ptr %90, align 1, !tbaa !12
-  %92 = sext i8 %91 to i32
-  br label %114
+86:                                               ; preds = %11
+  %87 = sext i32 %16 to i64
+  %88 = getelementptr inbounds i8, ptr %9, i64 %87
+  %89 = load i8, ptr %88, align 1, !tbaa !14
+  %90 = sext i8 %89 to i32
+  br label %112
 
-93:                                               ; preds = %12
-  %94 = add nsw i32 %15, -1
-  %95 = sext i32 %94 to i64
-  %96 = getelementptr inbounds [16 x i64], ptr %4, i64 0, i64 %95
-  %97 = load i64, ptr %96, align 8, !tbaa !10
-  %98 = icmp eq i64 %97, 0
-  br i1 %98, label %99, label %104
+91:                                               ; preds = %11
+  %92 = add nsw i32 %14, -1
+  %93 = sext i32 %92 to i64
+  %94 = getelementptr inbounds [16 x i64], ptr %4, i64 0, i64 %93
+  %95 = load i64, ptr %94, align 8, !tbaa !12
+  %96 = icmp eq i64 %95, 0
+  br i1 %96, label %97, label %102
 
-99:                                               ; preds = %93
-  %100 = sext i32 %17 to i64
-  %101 = getelementptr inbounds i8, ptr %9, i64 %100
-  %102 = load i8, ptr %101, align 1, !tbaa !12
-  %103 = sext i8 %102 to i32
-  br label %114
+97:                                               ; preds = %91
+  %98 = sext i32 %16 to i64
+  %99 = getelementptr inbounds i8, ptr %9, i64 %98
+  %100 = load i8, ptr %99, align 1, !tbaa !14
+  %101 = sext i8 %100 to i32
+  br label %112
 
-104:                                              ; preds = %93
-  %105 = add nsw i32 %14, 2
-  br label %114
+102:                                              ; preds = %91
+  %103 = add nsw i32 %13, 2
+  br label %112
 
-106:                                              ; preds = %12
-  %107 = add nsw i32 %15, -1
-  %108 = sext i32 %107 to i64
-  %109 = getelementptr inbounds [16 x i64], ptr %4, i64 0, i64 %108
-  %110 = load i64, ptr %109, align 8, !tbaa !10
-  %111 = mul nsw i64 %110, 100
-  %112 = sext i32 %15 to i64
-  %113 = add nsw i64 %111, %112
+104:                                              ; preds = %11
+  %105 = add nsw i32 %14, -1
+  %106 = sext i32 %105 to i64
+  %107 = getelementptr inbounds [16 x i64], ptr %4, i64 0, i64 %106
+  %108 = load i64, ptr %107, align 8, !tbaa !12
+  %109 = mul nsw i64 %108, 100
+  %110 = sext i32 %14 to i64
+  %111 = add nsw i64 %109, %110
+  br label %116
+
+112:                                              ; preds = %97, %102, %86, %77, %75, %67, %59, %49, %39, %29, %20
+  %113 = phi i32 [ %14, %97 ], [ %14, %102 ], [ %14, %86 ], [ %14, %77 ], [ %76, %75 ], [ %74, %67 ], [ %66, %59 ], [ %50, %49 ], [ %40, %39 ], [ %30, %29 ], [ %26, %20 ]
+  %114 = phi i32 [ %101, %97 ], [ %103, %102 ], [ %90, %86 ], [ %16, %77 ], [ %16, %75 ], [ %16, %67 ], [ %16, %59 ], [ %16, %49 ], [ %16, %39 ], [ %16, %29 ], [ %21, %20 ]
+  %115 = icmp sgt i32 %12, 1
+  br i1 %115, label %11, label %116, !llvm.loop !15
+
+116:                                              ; preds = %11, %112, %6, %104
+  %117 = phi i64 [ %111, %104 ], [ -3, %6 ], [ -3, %112 ], [ -2, %11 ]
+  call void @llvm.lifetime.end.p0(i64 128, ptr nonnull %4) #2
   br label %118
 
-114:                                              ; preds = %99, %104, %88, %79, %77, %69, %61, %51, %41, %31, %22
-  %115 = phi i32 [ %15, %99 ], [ %15, %104 ], [ %15, %88 ], [ %15, %79 ], [ %78, %77 ], [ %76, %69 ], [ %68, %61 ], [ %52, %51 ], [ %42, %41 ], [ %32, %31 ], [ %28, %22 ]
-  %116 = phi i32 [ %103, %99 ], [ %105, %104 ], [ %92, %88 ], [ %17, %79 ], [ %17, %77 ], [ %17, %69 ], [ %17, %61 ], [ %17, %51 ], [ %17, %41 ], [ %17, %31 ], [ %23, %22 ]
-  %117 = icmp sgt i32 %13, 1
-  br i1 %117, label %12, label %118, !llvm.loop !13
-
-118:                                              ; preds = %12, %114, %6, %106
-  %119 = phi i64 [ %113, %106 ], [ -3, %6 ], [ -3, %114 ], [ -2, %12 ]
-  call void @llvm.lifetime.end.p0(i64 128, ptr nonnull %4) #2
-  br label %120
-
-120:                                              ; preds = %3, %118
-  %121 = phi i64 [ %119, %118 ], [ -1, %3 ]
-  ret i64 %121
+118:                                              ; preds = %3, %116
+  %119 = phi i64 [ %117, %116 ], [ -1, %3 ]
+  ret i64 %119
 }
 
-; Function Attrs: argmemonly mustprogress nofree nosync nounwind willreturn
+; Function Attrs: mustprogress nocallback nofree nosync nounwind willreturn memory(argmem: readwrite)
 declare void @llvm.lifetime.start.p0(i64 immarg, ptr nocapture) #1
 
-; Function Attrs: argmemonly mustprogress nofree nosync nounwind willreturn
+; Function Attrs: mustprogress nocallback nofree nosync nounwind willreturn memory(argmem: readwrite)
 declare void @llvm.lifetime.end.p0(i64 immarg, ptr nocapture) #1
 
-attributes #0 = { nofree nosync nounwind readonly "frame-pointer"="none" "min-legal-vector-width"="0" "no-builtins" "no-trapping-math"="true" "stack-protector-buffer-size"="8" "target-features"="+64bit,+m" }
-attributes #1 = { argmemonly mustprogress nofree nosync nounwind willreturn }
+attributes #0 = { nofree norecurse nosync nounwind memory(read, inaccessiblemem: none) "no-builtins" "no-trapping-math"="true" "stack-protector-buffer-size"="8" "target-cpu"="generic-rv64" "target-features"="+64bit,+m,+relax,+zmmul,-a,-b,-c,-d,-e,-experimental-smmpm,-experimental-smnpm,-experimental-ssnpm,-experimental-sspm,-experimental-ssqosid,-experimental-supm,-experimental-zacas,-experimental-zalasr,-experimental-zicfilp,-experimental-zicfiss,-f,-h,-shcounterenw,-shgatpa,-shtvala,-shvsatpa,-shvstvala,-shvstvecd,-smaia,-smcdeleg,-smcsrind,-smepmp,-smstateen,-ssaia,-ssccfg,-ssccptr,-sscofpmf,-sscounterenw,-sscsrind,-ssstateen,-ssstrict,-sstc,-sstvala,-sstvecd,-ssu64xl,-svade,-svadu,-svbare,-svinval,-svnapot,-svpbmt,-v,-xcvalu,-xcvbi,-xcvbitmanip,-xcvelw,-xcvmac,-xcvmem,-xcvsimd,-xsfcease,-xsfvcp,-xsfvfnrclipxfqf,-xsfvfwmaccqqq,-xsfvqmaccdod,-xsfvqmaccqoq,-xsifivecdiscarddlone,-xsifivecflushdlone,-xtheadba,-xtheadbb,-xtheadbs,-xtheadcmo,-xtheadcondmov,-xtheadfmemidx,-xtheadmac,-xtheadmemidx,-xtheadmempair,-xtheadsync,-xtheadvdot,-xventanacondops,-xwchc,-za128rs,-za64rs,-zaamo,-zabha,-zalrsc,-zama16b,-zawrs,-zba,-zbb,-zbc,-zbkb,-zbkc,-zbkx,-zbs,-zca,-zcb,-zcd,-zce,-zcf,-zcmop,-zcmp,-zcmt,-zdinx,-zfa,-zfbfmin,-zfh,-zfhmin,-zfinx,-zhinx,-zhinxmin,-zic64b,-zicbom,-zicbop,-zicboz,-ziccamoa,-ziccif,-zicclsm,-ziccrse,-zicntr,-zicond,-zicsr,-zifencei,-zihintntl,-zihintpause,-zihpm,-zimop,-zk,-zkn,-zknd,-zkne,-zknh,-zkr,-zks,-zksed,-zksh,-zkt,-ztso,-zvbb,-zvbc,-zve32f,-zve32x,-zve64d,-zve64f,-zve64x,-zvfbfmin,-zvfbfwma,-zvfh,-zvfhmin,-zvkb,-zvkg,-zvkn,-zvknc,-zvkned,-zvkng,-zvknha,-zvknhb,-zvks,-zvksc,-zvksed,-zvksg,-zvksh,-zvkt,-zvl1024b,-zvl128b,-zvl16384b,-zvl2048b,-zvl256b,-zvl32768b,-zvl32b,-zvl4096b,-zvl512b,-zvl64b,-zvl65536b,-zvl8192b" }
+attributes #1 = { mustprogress nocallback nofree nosync nounwind willreturn memory(argmem: readwrite) }
 attributes #2 = { nounwind }
 
-!llvm.module.flags = !{!0, !1, !2, !3, !4}
-!llvm.ident = !{!5}
+!llvm.module.flags = !{!0, !1, !2, !4, !5, !6}
+!llvm.ident = !{!7}
 
 !0 = !{i32 1, !"wchar_size", i32 4}
 !1 = !{i32 1, !"target-abi", !"lp64"}
-!2 = !{i32 7, !"PIC Level", i32 2}
-!3 = !{i32 7, !"PIE Level", i32 2}
-!4 = !{i32 1, !"SmallDataLimit", i32 8}
-!5 = !{!"Debian clang version 14.0.6"}
-!6 = !{!7, !7, i64 0}
-!7 = !{!"any pointer", !8, i64 0}
-!8 = !{!"omnipotent char", !9, i64 0}
-!9 = !{!"Simple C/C++ TBAA"}
-!10 = !{!11, !11, i64 0}
-!11 = !{!"long", !8, i64 0}
-!12 = !{!8, !8, i64 0}
-!13 = distinct !{!13, !14, !15}
-!14 = !{!"llvm.loop.mustprogress"}
-!15 = !{!"llvm.loop.unroll.disable"}
+!2 = !{i32 6, !"riscv-isa", !3}
+!3 = !{!"rv64i2p1_m2p0_zmmul1p0"}
+!4 = !{i32 8, !"PIC Level", i32 2}
+!5 = !{i32 7, !"PIE Level", i32 2}
+!6 = !{i32 8, !"SmallDataLimit", i32 8}
+!7 = !{!"Debian clang version 19.1.7 (3~deb12u1)"}
+!8 = !{!9, !9, i64 0}
+!9 = !{!"any pointer", !10, i64 0}
+!10 = !{!"omnipotent char", !11, i64 0}
+!11 = !{!"Simple C/C++ TBAA"}
+!12 = !{!13, !13, i64 0}
+!13 = !{!"long", !10, i64 0}
+!14 = !{!10, !10, i64 0}
+!15 = distinct !{!15, !16, !17}
+!16 = !{!"llvm.loop.mustprogress"}
+!17 = !{!"llvm.loop.unroll.disable"}

@@ -1,6 +1,6 @@
 ; ModuleID = 'states.c'
 source_filename = "states.c"
-target datalayout = "e-m:e-p:64:64-i64:64-i128:128-n64-S128"
+target datalayout = "e-m:e-p:64:64-i64:64-i128:128-n32:64-S128"
 target triple = "riscv64-unknown-linux-gnu"
 
 @texts = internal unnamed_addr constant [8 x ptr] [ptr @.str, ptr @.str.1, ptr @.str.2, ptr @.str.3, ptr @.str.4, ptr @.str.5, ptr @.str.6, ptr @.str.7], align 8
@@ -16,142 +16,139 @@ target triple = "riscv64-unknown-linux-gnu"
 @switch.table.lamp = private unnamed_addr constant [4 x i32] [i32 1, i32 2, i32 3, i32 0], align 4
 @switch.table.lamp.8 = private unnamed_addr constant [4 x i32] [i32 1, i32 3, i32 1, i32 3], align 4
 
-; Function Attrs: nofree norecurse nosync nounwind readonly
-define dso_local zeroext i1 @is_number(i32 noundef signext %0) local_unnamed_addr #0 {
+; Function Attrs: nofree norecurse nosync nounwind memory(read, inaccessiblemem: none)
+define dso_local noundef zeroext i1 @is_number(i32 noundef signext %0) local_unnamed_addr #0 {
   %2 = and i32 %0, 7
-  %3 = zext i32 %2 to i64
+  %3 = zext nneg i32 %2 to i64
   %4 = getelementptr inbounds [8 x ptr], ptr @texts, i64 0, i64 %3
-  %5 = load ptr, ptr %4, align 8, !tbaa !6
-  %6 = load i8, ptr %5, align 1, !tbaa !10
+  %5 = load ptr, ptr %4, align 8, !tbaa !8
+  %6 = load i8, ptr %5, align 1, !tbaa !12
   %7 = icmp eq i8 %6, 0
-  br i1 %7, label %49, label %12
+  br i1 %7, label %46, label %10
 
-8:                                                ; preds = %39
-  %9 = trunc i32 %40 to i3
-  %10 = xor i3 %9, -4
-  %11 = icmp eq i3 %10, -1
-  br i1 %11, label %49, label %44
+8:                                                ; preds = %37
+  %9 = icmp eq i32 %38, 7
+  br i1 %9, label %46, label %42
 
-12:                                               ; preds = %1, %39
-  %13 = phi i8 [ %42, %39 ], [ %6, %1 ]
-  %14 = phi ptr [ %41, %39 ], [ %5, %1 ]
-  %15 = phi i32 [ %40, %39 ], [ 0, %1 ]
-  %16 = add i8 %13, -48
-  %17 = icmp ult i8 %16, 10
-  switch i32 %15, label %39 [
-    i32 0, label %18
-    i32 1, label %21
-    i32 2, label %23
-    i32 3, label %29
-    i32 4, label %31
-    i32 5, label %35
-    i32 6, label %37
+10:                                               ; preds = %1, %37
+  %11 = phi i8 [ %40, %37 ], [ %6, %1 ]
+  %12 = phi ptr [ %39, %37 ], [ %5, %1 ]
+  %13 = phi i32 [ %38, %37 ], [ 0, %1 ]
+  %14 = add i8 %11, -48
+  %15 = icmp ult i8 %14, 10
+  switch i32 %13, label %37 [
+    i32 0, label %16
+    i32 1, label %19
+    i32 2, label %21
+    i32 3, label %27
+    i32 4, label %29
+    i32 5, label %33
+    i32 6, label %35
   ]
 
-18:                                               ; preds = %12
-  switch i8 %13, label %19 [
-    i8 45, label %39
-    i8 43, label %39
+16:                                               ; preds = %10
+  switch i8 %11, label %17 [
+    i8 45, label %37
+    i8 43, label %37
   ]
 
-19:                                               ; preds = %18
-  %20 = select i1 %17, i32 2, i32 7
-  br label %39
+17:                                               ; preds = %16
+  %18 = select i1 %15, i32 2, i32 7
+  br label %37
 
-21:                                               ; preds = %12
-  %22 = select i1 %17, i32 2, i32 7
-  br label %39
+19:                                               ; preds = %10
+  %20 = select i1 %15, i32 2, i32 7
+  br label %37
 
-23:                                               ; preds = %12
-  br i1 %17, label %39, label %24
+21:                                               ; preds = %10
+  br i1 %15, label %37, label %22
 
-24:                                               ; preds = %23
-  %25 = icmp eq i8 %13, 46
-  br i1 %25, label %39, label %26
+22:                                               ; preds = %21
+  %23 = icmp eq i8 %11, 46
+  br i1 %23, label %37, label %24
 
-26:                                               ; preds = %24
-  %27 = icmp eq i8 %13, 101
-  %28 = select i1 %27, i32 5, i32 7
-  br label %39
+24:                                               ; preds = %22
+  %25 = icmp eq i8 %11, 101
+  %26 = select i1 %25, i32 5, i32 7
+  br label %37
 
-29:                                               ; preds = %12
-  %30 = select i1 %17, i32 4, i32 7
-  br label %39
+27:                                               ; preds = %10
+  %28 = select i1 %15, i32 4, i32 7
+  br label %37
 
-31:                                               ; preds = %12
-  br i1 %17, label %39, label %32
+29:                                               ; preds = %10
+  br i1 %15, label %37, label %30
 
-32:                                               ; preds = %31
-  %33 = icmp eq i8 %13, 101
-  %34 = select i1 %33, i32 5, i32 7
-  br label %39
+30:                                               ; preds = %29
+  %31 = icmp eq i8 %11, 101
+  %32 = select i1 %31, i32 5, i32 7
+  br label %37
 
-35:                                               ; preds = %12
-  %36 = select i1 %17, i32 6, i32 7
-  br label %39
+33:                                               ; preds = %10
+  %34 = select i1 %15, i32 6, i32 7
+  br label %37
 
-37:                                               ; preds = %12
-  %38 = select i1 %17, i32 6, i32 7
-  br label %39
+35:                                               ; preds = %10
+  %36 = select i1 %15, i32 6, i32 7
+  br label %37
 
-39:                                               ; preds = %12, %18, %18, %19, %21, %23, %24, %26, %29, %31, %32, %35, %37
-  %40 = phi i32 [ %38, %37 ], [ %36, %35 ], [ %34, %32 ], [ %30, %29 ], [ %28, %26 ], [ %22, %21 ], [ %20, %19 ], [ 1, %18 ], [ 1, %18 ], [ 2, %23 ], [ 3, %24 ], [ 4, %31 ], [ 7, %12 ]
-  %41 = getelementptr inbounds i8, ptr %14, i64 1
-  %42 = load i8, ptr %41, align 1, !tbaa !10
-  %43 = icmp eq i8 %42, 0
-  br i1 %43, label %8, label %12, !llvm.loop !11
+37:                                               ; preds = %10, %16, %16, %17, %19, %21, %22, %24, %27, %29, %30, %33, %35
+  %38 = phi i32 [ %36, %35 ], [ %34, %33 ], [ %32, %30 ], [ %28, %27 ], [ %26, %24 ], [ %20, %19 ], [ %18, %17 ], [ 1, %16 ], [ 1, %16 ], [ 2, %21 ], [ 3, %22 ], [ 4, %29 ], [ 7, %10 ]
+  %39 = getelementptr inbounds i8, ptr %12, i64 1
+  %40 = load i8, ptr %39, align 1, !tbaa !12
+  %41 = icmp eq i8 %40, 0
+  br i1 %41, label %8, label %10, !llvm.loop !13
 
-44:                                               ; preds = %8
-  %45 = zext i3 %10 to i7
-  %46 = lshr i7 -59, %45
-  %47 = and i7 %46, 1
-  %48 = icmp ne i7 %47, 0
-  br label %49
+42:                                               ; preds = %8
+  %43 = trunc nuw nsw i32 %38 to i7
+  %44 = lshr i7 -44, %43
+  %45 = trunc i7 %44 to i1
+  br label %46
 
-49:                                               ; preds = %1, %8, %44
-  %50 = phi i1 [ %48, %44 ], [ false, %8 ], [ false, %1 ]
-  ret i1 %50
+46:                                               ; preds = %1, %8, %42
+  %47 = phi i1 [ %45, %42 ], [ false, %8 ], [ false, %1 ]
+  ret i1 %47
 }
 
-; Function Attrs: nofree norecurse nosync nounwind readnone
+; Function Attrs: nofree norecurse nosync nounwind memory(none)
 define dso_local signext i32 @lamp(i32 noundef signext %0) local_unnamed_addr #1 {
   br label %2
 
 2:                                                ; preds = %19, %1
-  %3 = phi i32 [ %13, %19 ], [ %0, %1 ]
+  %3 = phi i32 [ %15, %19 ], [ %0, %1 ]
   %4 = phi i32 [ %22, %19 ], [ 0, %1 ]
   %5 = phi i32 [ %25, %19 ], [ 3, %1 ]
   %6 = icmp ult i32 %4, 4
   br label %7
 
 7:                                                ; preds = %2, %18
-  %8 = phi i32 [ %13, %18 ], [ %3, %2 ]
+  %8 = phi i32 [ %15, %18 ], [ %3, %2 ]
   %9 = phi i32 [ 0, %18 ], [ %5, %2 ]
   br label %10
 
-10:                                               ; preds = %7, %15
-  %11 = phi i32 [ %13, %15 ], [ %8, %7 ]
-  %12 = phi i32 [ %16, %15 ], [ %9, %7 ]
-  %13 = add i32 %11, -1
-  %14 = icmp eq i32 %11, 0
-  br i1 %14, label %26, label %15
+10:                                               ; preds = %7, %14
+  %11 = phi i32 [ %15, %14 ], [ %8, %7 ]
+  %12 = phi i32 [ %16, %14 ], [ %9, %7 ]
+  %13 = icmp eq i32 %11, 0
+  br i1 %13, label %26, label %14
 
-15:                                               ; preds = %10
+14:                                               ; preds = %10
+  %15 = add i32 %11, -1
   %16 = add nsw i32 %12, -1
   %17 = icmp eq i32 %16, 0
-  br i1 %17, label %18, label %10, !llvm.loop !14
+  br i1 %17, label %18, label %10, !llvm.loop !16
 
-18:                                               ; preds = %15
-  br i1 %6, label %19, label %7, !llvm.loop !14
+18:                                               ; preds = %14
+  br i1 %6, label %19, label %7, !llvm.loop !16
 
 19:                                               ; preds = %18
-  %20 = sext i32 %4 to i64
+  %20 = zext nneg i32 %4 to i64
   %21 = getelementptr inbounds [4 x i32], ptr @switch.table.lamp, i64 0, i64 %20
   %22 = load i32, ptr %21, align 4
-  %23 = sext i32 %4 to i64
+  %23 = zext nneg i32 %4 to i64
   %24 = getelementptr inbounds [4 x i32], ptr @switch.table.lamp.8, i64 0, i64 %23
   %25 = load i32, ptr %24, align 4
-  br label %2, !llvm.loop !14
+  br label %2, !llvm.loop !16
 
 26:                                               ; preds = %10
   %27 = mul nsw i32 %4, 10
@@ -159,7 +156,7 @@ define dso_local signext i32 @lamp(i32 noundef signext %0) local_unnamed_addr #1
   ret i32 %28
 }
 
-; Function Attrs: nofree norecurse nosync nounwind readnone
+; Function Attrs: nofree norecurse nosync nounwind memory(none)
 define dso_local signext i32 @without_comments() local_unnamed_addr #1 {
   br label %2
 
@@ -238,30 +235,32 @@ define dso_local signext i32 @without_comments() local_unnamed_addr #1 {
   %47 = phi i32 [ %5, %2 ], [ %39, %31 ], [ 0, %23 ], [ 0, %11 ], [ 1, %7 ], [ 2, %14 ], [ 4, %19 ], [ %30, %26 ], [ %44, %40 ]
   %48 = add nuw nsw i64 %3, 1
   %49 = getelementptr inbounds [31 x i8], ptr @source, i64 0, i64 %48
-  %50 = load i8, ptr %49, align 1, !tbaa !10
+  %50 = load i8, ptr %49, align 1, !tbaa !12
   %51 = icmp eq i64 %48, 30
-  br i1 %51, label %1, label %2, !llvm.loop !15
+  br i1 %51, label %1, label %2, !llvm.loop !17
 }
 
-attributes #0 = { nofree norecurse nosync nounwind readonly "frame-pointer"="none" "min-legal-vector-width"="0" "no-builtins" "no-trapping-math"="true" "stack-protector-buffer-size"="8" "target-features"="+64bit,+m" }
-attributes #1 = { nofree norecurse nosync nounwind readnone "frame-pointer"="none" "min-legal-vector-width"="0" "no-builtins" "no-trapping-math"="true" "stack-protector-buffer-size"="8" "target-features"="+64bit,+m" }
+attributes #0 = { nofree norecurse nosync nounwind memory(read, inaccessiblemem: none) "no-builtins" "no-trapping-math"="true" "stack-protector-buffer-size"="8" "target-cpu"="generic-rv64" "target-features"="+64bit,+m,+relax,+zmmul,-a,-b,-c,-d,-e,-experimental-smmpm,-experimental-smnpm,-experimental-ssnpm,-experimental-sspm,-experimental-ssqosid,-experimental-supm,-experimental-zacas,-experimental-zalasr,-experimental-zicfilp,-experimental-zicfiss,-f,-h,-shcounterenw,-shgatpa,-shtvala,-shvsatpa,-shvstvala,-shvstvecd,-smaia,-smcdeleg,-smcsrind,-smepmp,-smstateen,-ssaia,-ssccfg,-ssccptr,-sscofpmf,-sscounterenw,-sscsrind,-ssstateen,-ssstrict,-sstc,-sstvala,-sstvecd,-ssu64xl,-svade,-svadu,-svbare,-svinval,-svnapot,-svpbmt,-v,-xcvalu,-xcvbi,-xcvbitmanip,-xcvelw,-xcvmac,-xcvmem,-xcvsimd,-xsfcease,-xsfvcp,-xsfvfnrclipxfqf,-xsfvfwmaccqqq,-xsfvqmaccdod,-xsfvqmaccqoq,-xsifivecdiscarddlone,-xsifivecflushdlone,-xtheadba,-xtheadbb,-xtheadbs,-xtheadcmo,-xtheadcondmov,-xtheadfmemidx,-xtheadmac,-xtheadmemidx,-xtheadmempair,-xtheadsync,-xtheadvdot,-xventanacondops,-xwchc,-za128rs,-za64rs,-zaamo,-zabha,-zalrsc,-zama16b,-zawrs,-zba,-zbb,-zbc,-zbkb,-zbkc,-zbkx,-zbs,-zca,-zcb,-zcd,-zce,-zcf,-zcmop,-zcmp,-zcmt,-zdinx,-zfa,-zfbfmin,-zfh,-zfhmin,-zfinx,-zhinx,-zhinxmin,-zic64b,-zicbom,-zicbop,-zicboz,-ziccamoa,-ziccif,-zicclsm,-ziccrse,-zicntr,-zicond,-zicsr,-zifencei,-zihintntl,-zihintpause,-zihpm,-zimop,-zk,-zkn,-zknd,-zkne,-zknh,-zkr,-zks,-zksed,-zksh,-zkt,-ztso,-zvbb,-zvbc,-zve32f,-zve32x,-zve64d,-zve64f,-zve64x,-zvfbfmin,-zvfbfwma,-zvfh,-zvfhmin,-zvkb,-zvkg,-zvkn,-zvknc,-zvkned,-zvkng,-zvknha,-zvknhb,-zvks,-zvksc,-zvksed,-zvksg,-zvksh,-zvkt,-zvl1024b,-zvl128b,-zvl16384b,-zvl2048b,-zvl256b,-zvl32768b,-zvl32b,-zvl4096b,-zvl512b,-zvl64b,-zvl65536b,-zvl8192b" }
+attributes #1 = { nofree norecurse nosync nounwind memory(none) "no-builtins" "no-trapping-math"="true" "stack-protector-buffer-size"="8" "target-cpu"="generic-rv64" "target-features"="+64bit,+m,+relax,+zmmul,-a,-b,-c,-d,-e,-experimental-smmpm,-experimental-smnpm,-experimental-ssnpm,-experimental-sspm,-experimental-ssqosid,-experimental-supm,-experimental-zacas,-experimental-zalasr,-experimental-zicfilp,-experimental-zicfiss,-f,-h,-shcounterenw,-shgatpa,-shtvala,-shvsatpa,-shvstvala,-shvstvecd,-smaia,-smcdeleg,-smcsrind,-smepmp,-smstateen,-ssaia,-ssccfg,-ssccptr,-sscofpmf,-sscounterenw,-sscsrind,-ssstateen,-ssstrict,-sstc,-sstvala,-sstvecd,-ssu64xl,-svade,-svadu,-svbare,-svinval,-svnapot,-svpbmt,-v,-xcvalu,-xcvbi,-xcvbitmanip,-xcvelw,-xcvmac,-xcvmem,-xcvsimd,-xsfcease,-xsfvcp,-xsfvfnrclipxfqf,-xsfvfwmaccqqq,-xsfvqmaccdod,-xsfvqmaccqoq,-xsifivecdiscarddlone,-xsifivecflushdlone,-xtheadba,-xtheadbb,-xtheadbs,-xtheadcmo,-xtheadcondmov,-xtheadfmemidx,-xtheadmac,-xtheadmemidx,-xtheadmempair,-xtheadsync,-xtheadvdot,-xventanacondops,-xwchc,-za128rs,-za64rs,-zaamo,-zabha,-zalrsc,-zama16b,-zawrs,-zba,-zbb,-zbc,-zbkb,-zbkc,-zbkx,-zbs,-zca,-zcb,-zcd,-zce,-zcf,-zcmop,-zcmp,-zcmt,-zdinx,-zfa,-zfbfmin,-zfh,-zfhmin,-zfinx,-zhinx,-zhinxmin,-zic64b,-zicbom,-zicbop,-zicboz,-ziccamoa,-ziccif,-zicclsm,-ziccrse,-zicntr,-zicond,-zicsr,-zifencei,-zihintntl,-zihintpause,-zihpm,-zimop,-zk,-zkn,-zknd,-zkne,-zknh,-zkr,-zks,-zksed,-zksh,-zkt,-ztso,-zvbb,-zvbc,-zve32f,-zve32x,-zve64d,-zve64f,-zve64x,-zvfbfmin,-zvfbfwma,-zvfh,-zvfhmin,-zvkb,-zvkg,-zvkn,-zvknc,-zvkned,-zvkng,-zvknha,-zvknhb,-zvks,-zvksc,-zvksed,-zvksg,-zvksh,-zvkt,-zvl1024b,-zvl128b,-zvl16384b,-zvl2048b,-zvl256b,-zvl32768b,-zvl32b,-zvl4096b,-zvl512b,-zvl64b,-zvl65536b,-zvl8192b" }
 
-!llvm.module.flags = !{!0, !1, !2, !3, !4}
-!llvm.ident = !{!5}
+!llvm.module.flags = !{!0, !1, !2, !4, !5, !6}
+!llvm.ident = !{!7}
 
 !0 = !{i32 1, !"wchar_size", i32 4}
 !1 = !{i32 1, !"target-abi", !"lp64"}
-!2 = !{i32 7, !"PIC Level", i32 2}
-!3 = !{i32 7, !"PIE Level", i32 2}
-!4 = !{i32 1, !"SmallDataLimit", i32 8}
-!5 = !{!"Debian clang version 14.0.6"}
-!6 = !{!7, !7, i64 0}
-!7 = !{!"any pointer", !8, i64 0}
-!8 = !{!"omnipotent char", !9, i64 0}
-!9 = !{!"Simple C/C++ TBAA"}
-!10 = !{!8, !8, i64 0}
-!11 = distinct !{!11, !12, !13}
-!12 = !{!"llvm.loop.mustprogress"}
-!13 = !{!"llvm.loop.unroll.disable"}
-!14 = distinct !{!14, !12, !13}
-!15 = distinct !{!15, !12, !13}
+!2 = !{i32 6, !"riscv-isa", !3}
+!3 = !{!"rv64i2p1_m2p0_zmmul1p0"}
+!4 = !{i32 8, !"PIC Level", i32 2}
+!5 = !{i32 7, !"PIE Level", i32 2}
+!6 = !{i32 8, !"SmallDataLimit", i32 8}
+!7 = !{!"Debian clang version 19.1.7 (3~deb12u1)"}
+!8 = !{!9, !9, i64 0}
+!9 = !{!"any pointer", !10, i64 0}
+!10 = !{!"omnipotent char", !11, i64 0}
+!11 = !{!"Simple C/C++ TBAA"}
+!12 = !{!10, !10, i64 0}
+!13 = distinct !{!13, !14, !15}
+!14 = !{!"llvm.loop.mustprogress"}
+!15 = !{!"llvm.loop.unroll.disable"}
+!16 = distinct !{!16, !14, !15}
+!17 = distinct !{!17, !14, !15}

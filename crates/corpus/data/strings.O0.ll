@@ -1,6 +1,6 @@
 ; ModuleID = 'strings.c'
 source_filename = "strings.c"
-target datalayout = "e-m:e-p:64:64-i64:64-i128:128-n64-S128"
+target datalayout = "e-m:e-p:64:64-i64:64-i128:128-n32:64-S128"
 target triple = "riscv64-unknown-linux-gnu"
 
 @lines = internal constant [4 x ptr] [ptr @.str, ptr @.str.1, ptr @.str.2, ptr @.str.3], align 8
@@ -43,7 +43,7 @@ define internal signext i32 @length(ptr noundef %0) #0 {
   %10 = load ptr, ptr %3, align 8
   %11 = getelementptr inbounds i8, ptr %10, i32 1
   store ptr %11, ptr %3, align 8
-  br label %5, !llvm.loop !7
+  br label %5, !llvm.loop !9
 
 12:                                               ; preds = %5
   %13 = load ptr, ptr %3, align 8
@@ -111,7 +111,7 @@ define dso_local signext i32 @words_of(i32 noundef signext %0) #0 {
   %30 = load ptr, ptr %5, align 8
   %31 = getelementptr inbounds i8, ptr %30, i32 1
   store ptr %31, ptr %5, align 8
-  br label %11, !llvm.loop !9
+  br label %11, !llvm.loop !11
 
 32:                                               ; preds = %11
   %33 = load i32, ptr %3, align 4
@@ -171,7 +171,7 @@ define dso_local zeroext i1 @is_palindrome(i32 noundef signext %0) #0 {
   %37 = load i32, ptr %5, align 4
   %38 = add nsw i32 %37, -1
   store i32 %38, ptr %5, align 4
-  br label %14, !llvm.loop !10
+  br label %14, !llvm.loop !12
 
 39:                                               ; preds = %32
   %40 = load i32, ptr %4, align 4
@@ -215,7 +215,7 @@ define dso_local i64 @digit_sum(i64 noundef %0, i32 noundef signext %1) #0 {
   %22 = load ptr, ptr %6, align 8
   %23 = getelementptr inbounds i8, ptr %22, i32 1
   store ptr %23, ptr %6, align 8
-  br label %10, !llvm.loop !11
+  br label %10, !llvm.loop !13
 
 24:                                               ; preds = %10
   %25 = load i64, ptr %5, align 8
@@ -230,7 +230,7 @@ define internal ptr @digits(i64 noundef %0, i32 noundef signext %1) #0 {
   %6 = alloca i64, align 8
   store i64 %0, ptr %3, align 8
   store i32 %1, ptr %4, align 4
-  store ptr getelementptr inbounds ([24 x i8], ptr @buffer, i64 0, i64 23), ptr %5, align 8
+  store ptr getelementptr inbounds (i8, ptr @buffer, i64 23), ptr %5, align 8
   %7 = load i64, ptr %3, align 8
   %8 = icmp slt i64 %7, 0
   br i1 %8, label %9, label %12
@@ -272,7 +272,7 @@ define internal ptr @digits(i64 noundef %0, i32 noundef signext %1) #0 {
 30:                                               ; preds = %17
   %31 = load i64, ptr %6, align 8
   %32 = icmp ne i64 %31, 0
-  br i1 %32, label %17, label %33, !llvm.loop !12
+  br i1 %32, label %17, label %33, !llvm.loop !14
 
 33:                                               ; preds = %30
   %34 = load i64, ptr %3, align 8
@@ -355,7 +355,7 @@ define internal i64 @read_number(ptr noundef %0) #0 {
   %36 = load ptr, ptr %2, align 8
   %37 = getelementptr inbounds i8, ptr %36, i32 1
   store ptr %37, ptr %2, align 8
-  br label %14, !llvm.loop !13
+  br label %14, !llvm.loop !15
 
 38:                                               ; preds = %24
   %39 = load i32, ptr %4, align 4
@@ -426,7 +426,7 @@ define dso_local signext i32 @compared(i32 noundef signext %0, i32 noundef signe
   %35 = load ptr, ptr %6, align 8
   %36 = getelementptr inbounds i8, ptr %35, i32 1
   store ptr %36, ptr %6, align 8
-  br label %17, !llvm.loop !14
+  br label %17, !llvm.loop !16
 
 37:                                               ; preds = %30
   %38 = load ptr, ptr %5, align 8
@@ -439,24 +439,26 @@ define dso_local signext i32 @compared(i32 noundef signext %0, i32 noundef signe
   ret i32 %44
 }
 
-attributes #0 = { noinline nounwind optnone "frame-pointer"="all" "min-legal-vector-width"="0" "no-builtins" "no-trapping-math"="true" "stack-protector-buffer-size"="8" "target-features"="+64bit,+m" }
+attributes #0 = { noinline nounwind optnone "frame-pointer"="all" "no-builtins" "no-trapping-math"="true" "stack-protector-buffer-size"="8" "target-cpu"="generic-rv64" "target-features"="+64bit,+m,+relax,+zmmul,-a,-b,-c,-d,-e,-experimental-smmpm,-experimental-smnpm,-experimental-ssnpm,-experimental-sspm,-experimental-ssqosid,-experimental-supm,-experimental-zacas,-experimental-zalasr,-experimental-zicfilp,-experimental-zicfiss,-f,-h,-shcounterenw,-shgatpa,-shtvala,-shvsatpa,-shvstvala,-shvstvecd,-smaia,-smcdeleg,-smcsrind,-smepmp,-smstateen,-ssaia,-ssccfg,-ssccptr,-sscofpmf,-sscounterenw,-sscsrind,-ssstateen,-ssstrict,-sstc,-sstvala,-sstvecd,-ssu64xl,-svade,-svadu,-svbare,-svinval,-svnapot,-svpbmt,-v,-xcvalu,-xcvbi,-xcvbitmanip,-xcvelw,-xcvmac,-xcvmem,-xcvsimd,-xsfcease,-xsfvcp,-xsfvfnrclipxfqf,-xsfvfwmaccqqq,-xsfvqmaccdod,-xsfvqmaccqoq,-xsifivecdiscarddlone,-xsifivecflushdlone,-xtheadba,-xtheadbb,-xtheadbs,-xtheadcmo,-xtheadcondmov,-xtheadfmemidx,-xtheadmac,-xtheadmemidx,-xtheadmempair,-xtheadsync,-xtheadvdot,-xventanacondops,-xwchc,-za128rs,-za64rs,-zaamo,-zabha,-zalrsc,-zama16b,-zawrs,-zba,-zbb,-zbc,-zbkb,-zbkc,-zbkx,-zbs,-zca,-zcb,-zcd,-zce,-zcf,-zcmop,-zcmp,-zcmt,-zdinx,-zfa,-zfbfmin,-zfh,-zfhmin,-zfinx,-zhinx,-zhinxmin,-zic64b,-zicbom,-zicbop,-zicboz,-ziccamoa,-ziccif,-zicclsm,-ziccrse,-zicntr,-zicond,-zicsr,-zifencei,-zihintntl,-zihintpause,-zihpm,-zimop,-zk,-zkn,-zknd,-zkne,-zknh,-zkr,-zks,-zksed,-zksh,-zkt,-ztso,-zvbb,-zvbc,-zve32f,-zve32x,-zve64d,-zve64f,-zve64x,-zvfbfmin,-zvfbfwma,-zvfh,-zvfhmin,-zvkb,-zvkg,-zvkn,-zvknc,-zvkned,-zvkng,-zvknha,-zvknhb,-zvks,-zvksc,-zvksed,-zvksg,-zvksh,-zvkt,-zvl1024b,-zvl128b,-zvl16384b,-zvl2048b,-zvl256b,-zvl32768b,-zvl32b,-zvl4096b,-zvl512b,-zvl64b,-zvl65536b,-zvl8192b" }
 attributes #1 = { nobuiltin "no-builtins" }
 
-!llvm.module.flags = !{!0, !1, !2, !3, !4, !5}
-!llvm.ident = !{!6}
+!llvm.module.flags = !{!0, !1, !2, !4, !5, !6, !7}
+!llvm.ident = !{!8}
 
 !0 = !{i32 1, !"wchar_size", i32 4}
 !1 = !{i32 1, !"target-abi", !"lp64"}
-!2 = !{i32 7, !"PIC Level", i32 2}
-!3 = !{i32 7, !"PIE Level", i32 2}
-!4 = !{i32 7, !"frame-pointer", i32 2}
-!5 = !{i32 1, !"SmallDataLimit", i32 8}
-!6 = !{!"Debian clang version 14.0.6"}
-!7 = distinct !{!7, !8}
-!8 = !{!"llvm.loop.mustprogress"}
-!9 = distinct !{!9, !8}
-!10 = distinct !{!10, !8}
-!11 = distinct !{!11, !8}
-!12 = distinct !{!12, !8}
-!13 = distinct !{!13, !8}
-!14 = distinct !{!14, !8}
+!2 = !{i32 6, !"riscv-isa", !3}
+!3 = !{!"rv64i2p1_m2p0_zmmul1p0"}
+!4 = !{i32 8, !"PIC Level", i32 2}
+!5 = !{i32 7, !"PIE Level", i32 2}
+!6 = !{i32 7, !"frame-pointer", i32 2}
+!7 = !{i32 8, !"SmallDataLimit", i32 8}
+!8 = !{!"Debian clang version 19.1.7 (3~deb12u1)"}
+!9 = distinct !{!9, !10}
+!10 = !{!"llvm.loop.mustprogress"}
+!11 = distinct !{!11, !10}
+!12 = distinct !{!12, !10}
+!13 = distinct !{!13, !10}
+!14 = distinct !{!14, !10}
+!15 = distinct !{!15, !10}
+!16 = distinct !{!16, !10}

@@ -1,6 +1,6 @@
 ; ModuleID = 'structs.c'
 source_filename = "structs.c"
-target datalayout = "e-m:e-p:64:64-i64:64-i128:128-n64-S128"
+target datalayout = "e-m:e-p:64:64-i64:64-i128:128-n32:64-S128"
 target triple = "riscv64-unknown-linux-gnu"
 
 %struct.box = type { %struct.point, %struct.point, i8, i64 }
@@ -59,12 +59,12 @@ define dso_local i64 @weight() #0 {
   %1 = alloca i64, align 8
   %2 = alloca ptr, align 8
   store i64 0, ptr %1, align 8
-  store ptr getelementptr inbounds ([3 x %struct.box], ptr @boxes, i64 0, i64 0), ptr %2, align 8
+  store ptr @boxes, ptr %2, align 8
   br label %3
 
 3:                                                ; preds = %17, %0
   %4 = load ptr, ptr %2, align 8
-  %5 = icmp ult ptr %4, getelementptr inbounds ([3 x %struct.box], ptr @boxes, i64 1, i64 0)
+  %5 = icmp ult ptr %4, getelementptr inbounds (%struct.box, ptr @boxes, i64 3)
   br i1 %5, label %6, label %20
 
 6:                                                ; preds = %3
@@ -85,7 +85,7 @@ define dso_local i64 @weight() #0 {
   %18 = load ptr, ptr %2, align 8
   %19 = getelementptr inbounds %struct.box, ptr %18, i32 1
   store ptr %19, ptr %2, align 8
-  br label %3, !llvm.loop !7
+  br label %3, !llvm.loop !9
 
 20:                                               ; preds = %3
   %21 = load i64, ptr %1, align 8
@@ -276,7 +276,7 @@ define dso_local signext i32 @packed(i32 noundef signext %0) #0 {
   %35 = load i32, ptr %4, align 4
   %36 = add nsw i32 %35, 1
   store i32 %36, ptr %4, align 4
-  br label %6, !llvm.loop !9
+  br label %6, !llvm.loop !11
 
 37:                                               ; preds = %6
   store i32 0, ptr %5, align 4
@@ -317,7 +317,7 @@ define dso_local signext i32 @packed(i32 noundef signext %0) #0 {
   %65 = load i32, ptr %5, align 4
   %66 = add nsw i32 %65, 1
   store i32 %66, ptr %5, align 4
-  br label %38, !llvm.loop !10
+  br label %38, !llvm.loop !12
 
 67:                                               ; preds = %38
   %68 = load i32, ptr %3, align 4
@@ -385,7 +385,7 @@ define dso_local signext i32 @fields(i32 noundef signext %0, i32 noundef signext
   ret i32 %50
 }
 
-; Function Attrs: argmemonly nofree nounwind willreturn writeonly
+; Function Attrs: nocallback nofree nounwind willreturn memory(argmem: write)
 declare void @llvm.memset.p0.i64(ptr nocapture writeonly, i8, i64, i1 immarg) #1
 
 ; Function Attrs: noinline nounwind optnone
@@ -432,7 +432,7 @@ define dso_local signext i32 @reordered(i32 noundef signext %0) #0 {
   %29 = load i32, ptr %4, align 4
   %30 = add nsw i32 %29, 1
   store i32 %30, ptr %4, align 4
-  br label %7, !llvm.loop !11
+  br label %7, !llvm.loop !13
 
 31:                                               ; preds = %7
   %32 = load i32, ptr %3, align 4
@@ -471,26 +471,28 @@ define dso_local signext i32 @moved(i32 noundef signext %0, i32 noundef signext 
   ret i32 %25
 }
 
-; Function Attrs: argmemonly nofree nounwind willreturn
+; Function Attrs: nocallback nofree nounwind willreturn memory(argmem: readwrite)
 declare void @llvm.memcpy.p0.p0.i64(ptr noalias nocapture writeonly, ptr noalias nocapture readonly, i64, i1 immarg) #2
 
-attributes #0 = { noinline nounwind optnone "frame-pointer"="all" "min-legal-vector-width"="0" "no-builtins" "no-trapping-math"="true" "stack-protector-buffer-size"="8" "target-features"="+64bit,+m" }
-attributes #1 = { argmemonly nofree nounwind willreturn writeonly }
-attributes #2 = { argmemonly nofree nounwind willreturn }
+attributes #0 = { noinline nounwind optnone "frame-pointer"="all" "no-builtins" "no-trapping-math"="true" "stack-protector-buffer-size"="8" "target-cpu"="generic-rv64" "target-features"="+64bit,+m,+relax,+zmmul,-a,-b,-c,-d,-e,-experimental-smmpm,-experimental-smnpm,-experimental-ssnpm,-experimental-sspm,-experimental-ssqosid,-experimental-supm,-experimental-zacas,-experimental-zalasr,-experimental-zicfilp,-experimental-zicfiss,-f,-h,-shcounterenw,-shgatpa,-shtvala,-shvsatpa,-shvstvala,-shvstvecd,-smaia,-smcdeleg,-smcsrind,-smepmp,-smstateen,-ssaia,-ssccfg,-ssccptr,-sscofpmf,-sscounterenw,-sscsrind,-ssstateen,-ssstrict,-sstc,-sstvala,-sstvecd,-ssu64xl,-svade,-svadu,-svbare,-svinval,-svnapot,-svpbmt,-v,-xcvalu,-xcvbi,-xcvbitmanip,-xcvelw,-xcvmac,-xcvmem,-xcvsimd,-xsfcease,-xsfvcp,-xsfvfnrclipxfqf,-xsfvfwmaccqqq,-xsfvqmaccdod,-xsfvqmaccqoq,-xsifivecdiscarddlone,-xsifivecflushdlone,-xtheadba,-xtheadbb,-xtheadbs,-xtheadcmo,-xtheadcondmov,-xtheadfmemidx,-xtheadmac,-xtheadmemidx,-xtheadmempair,-xtheadsync,-xtheadvdot,-xventanacondops,-xwchc,-za128rs,-za64rs,-zaamo,-zabha,-zalrsc,-zama16b,-zawrs,-zba,-zbb,-zbc,-zbkb,-zbkc,-zbkx,-zbs,-zca,-zcb,-zcd,-zce,-zcf,-zcmop,-zcmp,-zcmt,-zdinx,-zfa,-zfbfmin,-zfh,-zfhmin,-zfinx,-zhinx,-zhinxmin,-zic64b,-zicbom,-zicbop,-zicboz,-ziccamoa,-ziccif,-zicclsm,-ziccrse,-zicntr,-zicond,-zicsr,-zifencei,-zihintntl,-zihintpause,-zihpm,-zimop,-zk,-zkn,-zknd,-zkne,-zknh,-zkr,-zks,-zksed,-zksh,-zkt,-ztso,-zvbb,-zvbc,-zve32f,-zve32x,-zve64d,-zve64f,-zve64x,-zvfbfmin,-zvfbfwma,-zvfh,-zvfhmin,-zvkb,-zvkg,-zvkn,-zvknc,-zvkned,-zvkng,-zvknha,-zvknhb,-zvks,-zvksc,-zvksed,-zvksg,-zvksh,-zvkt,-zvl1024b,-zvl128b,-zvl16384b,-zvl2048b,-zvl256b,-zvl32768b,-zvl32b,-zvl4096b,-zvl512b,-zvl64b,-zvl65536b,-zvl8192b" }
+attributes #1 = { nocallback nofree nounwind willreturn memory(argmem: write) }
+attributes #2 = { nocallback nofree nounwind willreturn memory(argmem: readwrite) }
 attributes #3 = { nobuiltin "no-builtins" }
 
-!llvm.module.flags = !{!0, !1, !2, !3, !4, !5}
-!llvm.ident = !{!6}
+!llvm.module.flags = !{!0, !1, !2, !4, !5, !6, !7}
+!llvm.ident = !{!8}
 
 !0 = !{i32 1, !"wchar_size", i32 4}
 !1 = !{i32 1, !"target-abi", !"lp64"}
-!2 = !{i32 7, !"PIC Level", i32 2}
-!3 = !{i32 7, !"PIE Level", i32 2}
-!4 = !{i32 7, !"frame-pointer", i32 2}
-!5 = !{i32 1, !"SmallDataLimit", i32 8}
-!6 = !{!"Debian clang version 14.0.6"}
-!7 = distinct !{!7, !8}
-!8 = !{!"llvm.loop.mustprogress"}
-!9 = distinct !{!9, !8}
-!10 = distinct !{!10, !8}
-!11 = distinct !{!11, !8}
+!2 = !{i32 6, !"riscv-isa", !3}
+!3 = !{!"rv64i2p1_m2p0_zmmul1p0"}
+!4 = !{i32 8, !"PIC Level", i32 2}
+!5 = !{i32 7, !"PIE Level", i32 2}
+!6 = !{i32 7, !"frame-pointer", i32 2}
+!7 = !{i32 8, !"SmallDataLimit", i32 8}
+!8 = !{!"Debian clang version 19.1.7 (3~deb12u1)"}
+!9 = distinct !{!9, !10}
+!10 = !{!"llvm.loop.mustprogress"}
+!11 = distinct !{!11, !10}
+!12 = distinct !{!12, !10}
+!13 = distinct !{!13, !10}

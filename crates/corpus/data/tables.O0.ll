@@ -1,6 +1,6 @@
 ; ModuleID = 'tables.c'
 source_filename = "tables.c"
-target datalayout = "e-m:e-p:64:64-i64:64-i128:128-n64-S128"
+target datalayout = "e-m:e-p:64:64-i64:64-i128:128-n32:64-S128"
 target triple = "riscv64-unknown-linux-gnu"
 
 @knapsack.best = internal global [65 x i32] zeroinitializer, align 4
@@ -41,7 +41,7 @@ define dso_local signext i32 @knapsack(i32 noundef signext %0) #0 {
   %16 = load i32, ptr %3, align 4
   %17 = add nsw i32 %16, 1
   store i32 %17, ptr %3, align 4
-  br label %7, !llvm.loop !7
+  br label %7, !llvm.loop !9
 
 18:                                               ; preds = %7
   store i32 0, ptr %4, align 4
@@ -105,7 +105,7 @@ define dso_local signext i32 @knapsack(i32 noundef signext %0) #0 {
   %59 = load i32, ptr %5, align 4
   %60 = add nsw i32 %59, -1
   store i32 %60, ptr %5, align 4
-  br label %24, !llvm.loop !9
+  br label %24, !llvm.loop !11
 
 61:                                               ; preds = %24
   br label %62
@@ -114,7 +114,7 @@ define dso_local signext i32 @knapsack(i32 noundef signext %0) #0 {
   %63 = load i32, ptr %4, align 4
   %64 = add nsw i32 %63, 1
   store i32 %64, ptr %4, align 4
-  br label %19, !llvm.loop !10
+  br label %19, !llvm.loop !12
 
 65:                                               ; preds = %19
   %66 = load i32, ptr %2, align 4
@@ -181,7 +181,7 @@ define dso_local signext i32 @edits(i32 noundef signext %0, i32 noundef signext 
   %41 = load i32, ptr %10, align 4
   %42 = add nsw i32 %41, 1
   store i32 %42, ptr %10, align 4
-  br label %31, !llvm.loop !11
+  br label %31, !llvm.loop !13
 
 43:                                               ; preds = %31
   store i32 1, ptr %11, align 4
@@ -300,7 +300,7 @@ define dso_local signext i32 @edits(i32 noundef signext %0, i32 noundef signext 
   %120 = load i32, ptr %13, align 4
   %121 = add nsw i32 %120, 1
   store i32 %121, ptr %13, align 4
-  br label %53, !llvm.loop !12
+  br label %53, !llvm.loop !14
 
 122:                                              ; preds = %53
   br label %123
@@ -309,7 +309,7 @@ define dso_local signext i32 @edits(i32 noundef signext %0, i32 noundef signext 
   %124 = load i32, ptr %11, align 4
   %125 = add nsw i32 %124, 1
   store i32 %125, ptr %11, align 4
-  br label %44, !llvm.loop !13
+  br label %44, !llvm.loop !15
 
 126:                                              ; preds = %44
   %127 = load i32, ptr %8, align 4
@@ -340,7 +340,7 @@ define internal signext i32 @length(ptr noundef %0) #0 {
   %12 = load i32, ptr %3, align 4
   %13 = add nsw i32 %12, 1
   store i32 %13, ptr %3, align 4
-  br label %4, !llvm.loop !14
+  br label %4, !llvm.loop !16
 
 14:                                               ; preds = %4
   %15 = load i32, ptr %3, align 4
@@ -398,7 +398,7 @@ define dso_local i64 @binomial(i32 noundef signext %0, i32 noundef signext %1) #
   %33 = load i32, ptr %7, align 4
   %34 = add nsw i32 %33, -1
   store i32 %34, ptr %7, align 4
-  br label %18, !llvm.loop !15
+  br label %18, !llvm.loop !17
 
 35:                                               ; preds = %18
   br label %36
@@ -407,7 +407,7 @@ define dso_local i64 @binomial(i32 noundef signext %0, i32 noundef signext %1) #
   %37 = load i32, ptr %6, align 4
   %38 = add nsw i32 %37, 1
   store i32 %38, ptr %6, align 4
-  br label %8, !llvm.loop !16
+  br label %8, !llvm.loop !18
 
 39:                                               ; preds = %8
   %40 = load i32, ptr %4, align 4
@@ -447,7 +447,7 @@ define dso_local signext i32 @ways_to_pay(i32 noundef signext %0) #0 {
   %17 = load i32, ptr %4, align 4
   %18 = add nsw i32 %17, 1
   store i32 %18, ptr %4, align 4
-  br label %8, !llvm.loop !17
+  br label %8, !llvm.loop !19
 
 19:                                               ; preds = %8
   store i32 0, ptr %5, align 4
@@ -494,7 +494,7 @@ define dso_local signext i32 @ways_to_pay(i32 noundef signext %0) #0 {
   %48 = load i32, ptr %6, align 4
   %49 = add nsw i32 %48, 1
   store i32 %49, ptr %6, align 4
-  br label %28, !llvm.loop !18
+  br label %28, !llvm.loop !20
 
 50:                                               ; preds = %28
   br label %51
@@ -503,7 +503,7 @@ define dso_local signext i32 @ways_to_pay(i32 noundef signext %0) #0 {
   %52 = load i32, ptr %5, align 4
   %53 = add nsw i32 %52, 1
   store i32 %53, ptr %5, align 4
-  br label %20, !llvm.loop !19
+  br label %20, !llvm.loop !21
 
 54:                                               ; preds = %20
   %55 = load i32, ptr %2, align 4
@@ -513,29 +513,31 @@ define dso_local signext i32 @ways_to_pay(i32 noundef signext %0) #0 {
   ret i32 %58
 }
 
-attributes #0 = { noinline nounwind optnone "frame-pointer"="all" "min-legal-vector-width"="0" "no-builtins" "no-trapping-math"="true" "stack-protector-buffer-size"="8" "target-features"="+64bit,+m" }
+attributes #0 = { noinline nounwind optnone "frame-pointer"="all" "no-builtins" "no-trapping-math"="true" "stack-protector-buffer-size"="8" "target-cpu"="generic-rv64" "target-features"="+64bit,+m,+relax,+zmmul,-a,-b,-c,-d,-e,-experimental-smmpm,-experimental-smnpm,-experimental-ssnpm,-experimental-sspm,-experimental-ssqosid,-experimental-supm,-experimental-zacas,-experimental-zalasr,-experimental-zicfilp,-experimental-zicfiss,-f,-h,-shcounterenw,-shgatpa,-shtvala,-shvsatpa,-shvstvala,-shvstvecd,-smaia,-smcdeleg,-smcsrind,-smepmp,-smstateen,-ssaia,-ssccfg,-ssccptr,-sscofpmf,-sscounterenw,-sscsrind,-ssstateen,-ssstrict,-sstc,-sstvala,-sstvecd,-ssu64xl,-svade,-svadu,-svbare,-svinval,-svnapot,-svpbmt,-v,-xcvalu,-xcvbi,-xcvbitmanip,-xcvelw,-xcvmac,-xcvmem,-xcvsimd,-xsfcease,-xsfvcp,-xsfvfnrclipxfqf,-xsfvfwmaccqqq,-xsfvqmaccdod,-xsfvqmaccqoq,-xsifivecdiscarddlone,-xsifivecflushdlone,-xtheadba,-xtheadbb,-xtheadbs,-xtheadcmo,-xtheadcondmov,-xtheadfmemidx,-xtheadmac,-xtheadmemidx,-xtheadmempair,-xtheadsync,-xtheadvdot,-xventanacondops,-xwchc,-za128rs,-za64rs,-zaamo,-zabha,-zalrsc,-zama16b,-zawrs,-zba,-zbb,-zbc,-zbkb,-zbkc,-zbkx,-zbs,-zca,-zcb,-zcd,-zce,-zcf,-zcmop,-zcmp,-zcmt,-zdinx,-zfa,-zfbfmin,-zfh,-zfhmin,-zfinx,-zhinx,-zhinxmin,-zic64b,-zicbom,-zicbop,-zicboz,-ziccamoa,-ziccif,-zicclsm,-ziccrse,-zicntr,-zicond,-zicsr,-zifencei,-zihintntl,-zihintpause,-zihpm,-zimop,-zk,-zkn,-zknd,-zkne,-zknh,-zkr,-zks,-zksed,-zksh,-zkt,-ztso,-zvbb,-zvbc,-zve32f,-zve32x,-zve64d,-zve64f,-zve64x,-zvfbfmin,-zvfbfwma,-zvfh,-zvfhmin,-zvkb,-zvkg,-zvkn,-zvknc,-zvkned,-zvkng,-zvknha,-zvknhb,-zvks,-zvksc,-zvksed,-zvksg,-zvksh,-zvkt,-zvl1024b,-zvl128b,-zvl16384b,-zvl2048b,-zvl256b,-zvl32768b,-zvl32b,-zvl4096b,-zvl512b,-zvl64b,-zvl65536b,-zvl8192b" }
 attributes #1 = { nobuiltin "no-builtins" }
 
-!llvm.module.flags = !{!0, !1, !2, !3, !4, !5}
-!llvm.ident = !{!6}
+!llvm.module.flags = !{!0, !1, !2, !4, !5, !6, !7}
+!llvm.ident = !{!8}
 
 !0 = !{i32 1, !"wchar_size", i32 4}
 !1 = !{i32 1, !"target-abi", !"lp64"}
-!2 = !{i32 7, !"PIC Level", i32 2}
-!3 = !{i32 7, !"PIE Level", i32 2}
-!4 = !{i32 7, !"frame-pointer", i32 2}
-!5 = !{i32 1, !"SmallDataLimit", i32 8}
-!6 = !{!"Debian clang version 14.0.6"}
-!7 = distinct !{!7, !8}
-!8 = !{!"llvm.loop.mustprogress"}
-!9 = distinct !{!9, !8}
-!10 = distinct !{!10, !8}
-!11 = distinct !{!11, !8}
-!12 = distinct !{!12, !8}
-!13 = distinct !{!13, !8}
-!14 = distinct !{!14, !8}
-!15 = distinct !{!15, !8}
-!16 = distinct !{!16, !8}
-!17 = distinct !{!17, !8}
-!18 = distinct !{!18, !8}
-!19 = distinct !{!19, !8}
+!2 = !{i32 6, !"riscv-isa", !3}
+!3 = !{!"rv64i2p1_m2p0_zmmul1p0"}
+!4 = !{i32 8, !"PIC Level", i32 2}
+!5 = !{i32 7, !"PIE Level", i32 2}
+!6 = !{i32 7, !"frame-pointer", i32 2}
+!7 = !{i32 8, !"SmallDataLimit", i32 8}
+!8 = !{!"Debian clang version 19.1.7 (3~deb12u1)"}
+!9 = distinct !{!9, !10}
+!10 = !{!"llvm.loop.mustprogress"}
+!11 = distinct !{!11, !10}
+!12 = distinct !{!12, !10}
+!13 = distinct !{!13, !10}
+!14 = distinct !{!14, !10}
+!15 = distinct !{!15, !10}
+!16 = distinct !{!16, !10}
+!17 = distinct !{!17, !10}
+!18 = distinct !{!18, !10}
+!19 = distinct !{!19, !10}
+!20 = distinct !{!20, !10}
+!21 = distinct !{!21, !10}

@@ -1,6 +1,6 @@
 ; ModuleID = 'utf8.c'
 source_filename = "utf8.c"
-target datalayout = "e-m:e-p:64:64-i64:64-i128:128-n64-S128"
+target datalayout = "e-m:e-p:64:64-i64:64-i128:128-n32:64-S128"
 target triple = "riscv64-unknown-linux-gnu"
 
 @bytes = internal global [4 x i8] zeroinitializer, align 1
@@ -43,7 +43,7 @@ define dso_local signext i32 @coded(i32 noundef signext %0) #0 {
   %22 = load i32, ptr %5, align 4
   %23 = add nsw i32 %22, 1
   store i32 %23, ptr %5, align 4
-  br label %8, !llvm.loop !7
+  br label %8, !llvm.loop !9
 
 24:                                               ; preds = %8
   %25 = load i32, ptr %3, align 4
@@ -62,7 +62,7 @@ define internal signext i32 @put(i32 noundef signext %0) #0 {
 6:                                                ; preds = %1
   %7 = load i32, ptr %3, align 4
   %8 = trunc i32 %7 to i8
-  store i8 %8, ptr getelementptr inbounds ([4 x i8], ptr @bytes, i64 0, i64 0), align 1
+  store i8 %8, ptr @bytes, align 1
   store i32 1, ptr %2, align 4
   br label %68
 
@@ -76,7 +76,7 @@ define internal signext i32 @put(i32 noundef signext %0) #0 {
   %14 = lshr i32 %13, 6
   %15 = or i32 192, %14
   %16 = trunc i32 %15 to i8
-  store i8 %16, ptr getelementptr inbounds ([4 x i8], ptr @bytes, i64 0, i64 0), align 1
+  store i8 %16, ptr @bytes, align 1
   %17 = load i32, ptr %3, align 4
   %18 = and i32 %17, 63
   %19 = or i32 128, %18
@@ -109,7 +109,7 @@ define internal signext i32 @put(i32 noundef signext %0) #0 {
   %33 = lshr i32 %32, 12
   %34 = or i32 224, %33
   %35 = trunc i32 %34 to i8
-  store i8 %35, ptr getelementptr inbounds ([4 x i8], ptr @bytes, i64 0, i64 0), align 1
+  store i8 %35, ptr @bytes, align 1
   %36 = load i32, ptr %3, align 4
   %37 = lshr i32 %36, 6
   %38 = and i32 %37, 63
@@ -134,7 +134,7 @@ define internal signext i32 @put(i32 noundef signext %0) #0 {
   %50 = lshr i32 %49, 18
   %51 = or i32 240, %50
   %52 = trunc i32 %51 to i8
-  store i8 %52, ptr getelementptr inbounds ([4 x i8], ptr @bytes, i64 0, i64 0), align 1
+  store i8 %52, ptr @bytes, align 1
   %53 = load i32, ptr %3, align 4
   %54 = lshr i32 %53, 12
   %55 = and i32 %54, 63
@@ -184,7 +184,7 @@ define dso_local signext i32 @point_again(i32 noundef signext %0) #0 {
   br label %46
 
 12:                                               ; preds = %1
-  %13 = load i8, ptr getelementptr inbounds ([4 x i8], ptr @bytes, i64 0, i64 0), align 1
+  %13 = load i8, ptr @bytes, align 1
   %14 = call signext i32 @length_by_first(i8 noundef zeroext %13) #1
   %15 = load i32, ptr %4, align 4
   %16 = icmp ne i32 %14, %15
@@ -195,7 +195,7 @@ define dso_local signext i32 @point_again(i32 noundef signext %0) #0 {
   br label %46
 
 18:                                               ; preds = %12
-  %19 = load i8, ptr getelementptr inbounds ([4 x i8], ptr @bytes, i64 0, i64 0), align 1
+  %19 = load i8, ptr @bytes, align 1
   %20 = zext i8 %19 to i32
   %21 = load i32, ptr %4, align 4
   %22 = sext i32 %21 to i64
@@ -230,7 +230,7 @@ define dso_local signext i32 @point_again(i32 noundef signext %0) #0 {
   %42 = load i32, ptr %6, align 4
   %43 = add nsw i32 %42, 1
   store i32 %43, ptr %6, align 4
-  br label %27, !llvm.loop !9
+  br label %27, !llvm.loop !11
 
 44:                                               ; preds = %27
   %45 = load i32, ptr %5, align 4
@@ -291,7 +291,7 @@ define dso_local signext i32 @points() #0 {
   %1 = alloca i32, align 4
   %2 = alloca ptr, align 8
   store i32 0, ptr %1, align 4
-  store ptr getelementptr inbounds ([22 x i8], ptr @text, i64 0, i64 0), ptr %2, align 8
+  store ptr @text, ptr %2, align 8
   br label %3
 
 3:                                                ; preds = %17, %0
@@ -321,27 +321,29 @@ define dso_local signext i32 @points() #0 {
   %18 = load ptr, ptr %2, align 8
   %19 = getelementptr inbounds i8, ptr %18, i32 1
   store ptr %19, ptr %2, align 8
-  br label %3, !llvm.loop !10
+  br label %3, !llvm.loop !12
 
 20:                                               ; preds = %3
   %21 = load i32, ptr %1, align 4
   ret i32 %21
 }
 
-attributes #0 = { noinline nounwind optnone "frame-pointer"="all" "min-legal-vector-width"="0" "no-builtins" "no-trapping-math"="true" "stack-protector-buffer-size"="8" "target-features"="+64bit,+m" }
+attributes #0 = { noinline nounwind optnone "frame-pointer"="all" "no-builtins" "no-trapping-math"="true" "stack-protector-buffer-size"="8" "target-cpu"="generic-rv64" "target-features"="+64bit,+m,+relax,+zmmul,-a,-b,-c,-d,-e,-experimental-smmpm,-experimental-smnpm,-experimental-ssnpm,-experimental-sspm,-experimental-ssqosid,-experimental-supm,-experimental-zacas,-experimental-zalasr,-experimental-zicfilp,-experimental-zicfiss,-f,-h,-shcounterenw,-shgatpa,-shtvala,-shvsatpa,-shvstvala,-shvstvecd,-smaia,-smcdeleg,-smcsrind,-smepmp,-smstateen,-ssaia,-ssccfg,-ssccptr,-sscofpmf,-sscounterenw,-sscsrind,-ssstateen,-ssstrict,-sstc,-sstvala,-sstvecd,-ssu64xl,-svade,-svadu,-svbare,-svinval,-svnapot,-svpbmt,-v,-xcvalu,-xcvbi,-xcvbitmanip,-xcvelw,-xcvmac,-xcvmem,-xcvsimd,-xsfcease,-xsfvcp,-xsfvfnrclipxfqf,-xsfvfwmaccqqq,-xsfvqmaccdod,-xsfvqmaccqoq,-xsifivecdiscarddlone,-xsifivecflushdlone,-xtheadba,-xtheadbb,-xtheadbs,-xtheadcmo,-xtheadcondmov,-xtheadfmemidx,-xtheadmac,-xtheadmemidx,-xtheadmempair,-xtheadsync,-xtheadvdot,-xventanacondops,-xwchc,-za128rs,-za64rs,-zaamo,-zabha,-zalrsc,-zama16b,-zawrs,-zba,-zbb,-zbc,-zbkb,-zbkc,-zbkx,-zbs,-zca,-zcb,-zcd,-zce,-zcf,-zcmop,-zcmp,-zcmt,-zdinx,-zfa,-zfbfmin,-zfh,-zfhmin,-zfinx,-zhinx,-zhinxmin,-zic64b,-zicbom,-zicbop,-zicboz,-ziccamoa,-ziccif,-zicclsm,-ziccrse,-zicntr,-zicond,-zicsr,-zifencei,-zihintntl,-zihintpause,-zihpm,-zimop,-zk,-zkn,-zknd,-zkne,-zknh,-zkr,-zks,-zksed,-zksh,-zkt,-ztso,-zvbb,-zvbc,-zve32f,-zve32x,-zve64d,-zve64f,-zve64x,-zvfbfmin,-zvfbfwma,-zvfh,-zvfhmin,-zvkb,-zvkg,-zvkn,-zvknc,-zvkned,-zvkng,-zvknha,-zvknhb,-zvks,-zvksc,-zvksed,-zvksg,-zvksh,-zvkt,-zvl1024b,-zvl128b,-zvl16384b,-zvl2048b,-zvl256b,-zvl32768b,-zvl32b,-zvl4096b,-zvl512b,-zvl64b,-zvl65536b,-zvl8192b" }
 attributes #1 = { nobuiltin "no-builtins" }
 
-!llvm.module.flags = !{!0, !1, !2, !3, !4, !5}
-!llvm.ident = !{!6}
+!llvm.module.flags = !{!0, !1, !2, !4, !5, !6, !7}
+!llvm.ident = !{!8}
 
 !0 = !{i32 1, !"wchar_size", i32 4}
 !1 = !{i32 1, !"target-abi", !"lp64"}
-!2 = !{i32 7, !"PIC Level", i32 2}
-!3 = !{i32 7, !"PIE Level", i32 2}
-!4 = !{i32 7, !"frame-pointer", i32 2}
-!5 = !{i32 1, !"SmallDataLimit", i32 8}
-!6 = !{!"Debian clang version 14.0.6"}
-!7 = distinct !{!7, !8}
-!8 = !{!"llvm.loop.mustprogress"}
-!9 = distinct !{!9, !8}
-!10 = distinct !{!10, !8}
+!2 = !{i32 6, !"riscv-isa", !3}
+!3 = !{!"rv64i2p1_m2p0_zmmul1p0"}
+!4 = !{i32 8, !"PIC Level", i32 2}
+!5 = !{i32 7, !"PIE Level", i32 2}
+!6 = !{i32 7, !"frame-pointer", i32 2}
+!7 = !{i32 8, !"SmallDataLimit", i32 8}
+!8 = !{!"Debian clang version 19.1.7 (3~deb12u1)"}
+!9 = distinct !{!9, !10}
+!10 = !{!"llvm.loop.mustprogress"}
+!11 = distinct !{!11, !10}
+!12 = distinct !{!12, !10}
