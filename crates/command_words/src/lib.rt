@@ -8,6 +8,3 @@ mod words;
 
 pub use line::{CommandLine, GREATEST_LEVEL, RunOptions, SimOptions};
 pub use words::read_words;
-
-#[cfg(test)]
-mod tests;

@@ -1,4 +1,3 @@
 pub mod WordsExact
 pub mod OperatorsExact
 pub mod TypesExact
-pub mod ValuesExact

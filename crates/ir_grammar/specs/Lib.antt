@@ -1,4 +1,3 @@
 pub mod Words
 pub mod Operators
 pub mod Types
-pub mod Values

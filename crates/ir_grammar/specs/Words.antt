@@ -56,8 +56,13 @@ abbrev pub is_number : Token → Bool
 is_number (number negative digits) = true
 is_number token = false
 
+-- a number without a sign
+abbrev pub is_natural : Token → Bool
+is_natural (number negative digits) = not negative
+is_natural token = false
+
 abbrev pub is_align_of : List ℕ → Token → Token → Bool
-is_align_of name token second = is_word name token && is_number second
+is_align_of name token second = is_word name token && is_natural second
 
 -- `"..."`, with `="..."` or not
 unfoldable pub string_attribute : Form (Unit {0})
@@ -78,8 +83,7 @@ word_attribute = do
 unfoldable pub numbered_attribute : Form (Unit {0})
 numbered_attribute = do
   _ ← passed is_attribute
-  _ ← numeral
-  yield tt
+  passed is_natural
 
 -- one of the words before a type
 unfoldable pub word_item : Form (Unit {0})
@@ -105,8 +109,7 @@ words = do
 unfoldable pub attribute_number : Form (Unit {0})
 attribute_number = do
   _ ← punctuation 35
-  _ ← numeral
-  yield tt
+  passed is_natural
 
 -- one of the attributes behind a type or a call
 unfoldable pub attribute_item : Form (Unit {0})
@@ -117,7 +120,7 @@ attribute_item =
     word_attribute))
 
 abbrev pub is_number_behind : ℕ → Token → Token → Bool
-is_number_behind byte token second = is_mark byte token && is_number second
+is_number_behind byte token second = is_mark byte token && is_natural second
 
 abbrev pub begins_attribute : Token → Token → Bool
 begins_attribute token second = is_string token || is_attribute token || is_number_behind 35 token second
@@ -152,8 +155,8 @@ parentheses = by_token (is_mark 40) group nothing
 unfoldable pub metadata : Form (Unit {0})
 metadata = do
   _ ← punctuation 33
-  by_token is_number
-      (passed is_number)
+  by_token is_natural
+      (passed is_natural)
       (by_token is_any_word
       (do
         _ ← passed is_cased_word

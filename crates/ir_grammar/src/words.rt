@@ -6,7 +6,7 @@ ghost use Rattle.ir_text.specs.Token.{token_at};
 ghost use Rattle.ir_text.specs.Form.{by_token};
 ghost use Rattle.ir_text.specs.Words.{is_mark, is_word, passed};
 ghost use Rattle.ir_text.specs.Reads.{token_of, Steps};
-ghost use Rattle.ir_grammar.specs.Words.{left_out_words, reserved_words, is_among, is_int_name, is_lower_byte, is_attribute_name, is_attribute, is_string, is_number, is_align_of, string_attribute, word_attribute, numbered_attribute, word_item, begins_word_item, word_turn, words, attribute_number, attribute_item, is_number_behind, begins_attribute, attribute_turn, attributes, is_any_word, is_cased_byte, is_cased_word, is_section_of, parentheses, metadata, named_metadata, align_form, suffix, suffix_turn, suffixes};
+ghost use Rattle.ir_grammar.specs.Words.{left_out_words, reserved_words, is_among, is_int_name, is_lower_byte, is_attribute_name, is_attribute, is_string, is_number, is_natural, is_align_of, string_attribute, word_attribute, numbered_attribute, word_item, begins_word_item, word_turn, words, attribute_number, attribute_item, is_number_behind, begins_attribute, attribute_turn, attributes, is_any_word, is_cased_byte, is_cased_word, is_section_of, parentheses, metadata, named_metadata, align_form, suffix, suffix_turn, suffixes};
 
 use crate::type_tree::Align;
 use ir_text::{Reader, Stop, Token, Turn};
@@ -192,6 +192,16 @@ pub fn is_number(token: Token) -> bool
     matches!(token, Token::Number(..))
 }
 
+/// Whether a number without a sign stands there.
+pub fn is_natural(token: Token) -> bool
+    ensures { result ≡ is_natural (token_of token.entry) }
+{
+    match token {
+        Token::Number(is_negative, _) => !is_negative,
+        _ => false,
+    }
+}
+
 pub fn is_any_word(token: Token) -> bool
     ensures { result ≡ is_any_word (token_of token.entry) }
 {
@@ -236,7 +246,7 @@ pub fn is_align_of(name: &[u8], token: Token, second: Token) -> bool
     ensures { result ≡ is_align_of name.now (token_of token.entry) (token_of second.entry) }
 {
     match token {
-        Token::Word(word) => word == name && is_number(second),
+        Token::Word(word) => word == name && is_natural(second),
         _ => false,
     }
 }
@@ -257,7 +267,7 @@ pub fn begins_attribute(token: Token, second: Token) -> bool
     match token {
         Token::String(_) => true,
         Token::Word(name) => is_attribute_name(name),
-        Token::Mark(byte) => byte == b'#' && is_number(second),
+        Token::Mark(byte) => byte == b'#' && is_natural(second),
         _ => false,
     }
 }
@@ -328,6 +338,18 @@ pub fn pass_number(reader: &mut Reader<'_>) -> Result<(), Stop>
     Ok(())
 }
 
+/// A number without a sign.
+#[tactic(auto, unfolding(ir_text::specs::Words::passed))]
+pub fn pass_natural(reader: &mut Reader<'_>) -> Result<(), Stop>
+    ensures { Steps (λ _. tt) result reader.new ((passed is_natural).read reader.old) }
+{
+    if !is_natural(reader.peek()) {
+        return Err(reader.fault());
+    }
+    let _number = reader.advance();
+    Ok(())
+}
+
 #[tactic(auto, unfolding(crate::specs::Words::string_attribute))]
 pub fn string_attribute(reader: &mut Reader<'_>) -> Result<(), Stop>
     ensures { Steps (λ _. tt) result reader.new (string_attribute.read reader.old) }
@@ -356,8 +378,7 @@ pub fn numbered_attribute(reader: &mut Reader<'_>) -> Result<(), Stop>
     ensures { Steps (λ _. tt) result reader.new (numbered_attribute.read reader.old) }
 {
     pass_attribute(reader)?;
-    let _number = reader.numeral()?;
-    Ok(())
+    pass_natural(reader)
 }
 
 #[tactic(auto, unfolding(crate::specs::Words::word_item))]
@@ -404,8 +425,7 @@ fn attribute_number(reader: &mut Reader<'_>) -> Result<(), Stop>
     ensures { Steps (λ _. tt) result reader.new (attribute_number.read reader.old) }
 {
     reader.punctuation(b'#')?;
-    let _number = reader.numeral()?;
-    Ok(())
+    pass_natural(reader)
 }
 
 #[tactic(auto, unfolding(crate::specs::Words::attribute_item))]
@@ -453,8 +473,8 @@ pub fn metadata(reader: &mut Reader<'_>) -> Result<(), Stop>
     ensures { Steps (λ _. tt) result reader.new (metadata.read reader.old) }
 {
     reader.punctuation(b'!')?;
-    if is_number(reader.peek()) {
-        return pass_number(reader);
+    if is_natural(reader.peek()) {
+        return pass_natural(reader);
     }
     if is_any_word(reader.peek()) {
         pass_cased_word(reader)?;

@@ -5,13 +5,13 @@ use Rattle.std.specs.List.{starts_with}
 use Rattle.ir_text.specs.declared.name.Name.{Name}
 use Rattle.ir_text.specs.declared.name.Number.{Number}
 use Rattle.ir_grammar.specs.declared.type_tree.TypeNode.{TypeNode}
-use Rattle.ir_grammar.specs.declared.value_tree.Value.{Value}
-use Rattle.ir_grammar.specs.declared.value_tree.Value.TheVariants as written
-use Rattle.ir_grammar.specs.declared.value_tree.Typed.{Typed}
-use Rattle.ir_tree.specs.declared.tree.Incoming.{Incoming}
-use Rattle.ir_tree.specs.declared.tree.Case.{Case}
-use Rattle.ir_tree.specs.declared.tree.Operation.{Operation}
-use Rattle.ir_tree.specs.declared.tree.Operation.TheVariants as operations
+use Rattle.ir_value_trees.specs.declared.value_tree.Value.{Value}
+use Rattle.ir_value_trees.specs.declared.value_tree.Value.TheVariants as written
+use Rattle.ir_value_trees.specs.declared.value_tree.Typed.{Typed}
+use Rattle.ir_instruction_trees.specs.declared.tree.Incoming.{Incoming}
+use Rattle.ir_instruction_trees.specs.declared.tree.Case.{Case}
+use Rattle.ir_instruction_trees.specs.declared.tree.Operation.{Operation}
+use Rattle.ir_instruction_trees.specs.declared.tree.Operation.TheVariants as operations
 use Rattle.ir_core.specs.declared.types.Ty.{Ty}
 use Rattle.ir_core.specs.declared.types.Ty.TheVariants as values
 use Rattle.ir_core.specs.declared.code.Operand.{Operand}
@@ -311,20 +311,23 @@ module _ (types : Types) (symbols : Symbols) (table : Table) where
       (λ third. typed_list_fails e arguments third)
       (λ all made none. ok-fails (core.Call n all) e none) last)) more) h
 
-  quiet-value-fails : (P : Fault → Type 0) (e : Fault) (value : Value) → ((left : ℕ) → ((at : ℕ) → value ≡ written.False at → ⊥) → P (faults.Syntax left)) → ((left : ℕ) → value ≡ written.True left → P (faults.LeftOut left)) → quiet_value value ≡ Err e → P e
+  quiet-value-fails : (P : Fault → Type 0) (e : Fault) (value : Value) → ((left : ℕ) → ((at : ℕ) → value ≡ written.False at → ⊥) → ((at : ℕ) → value ≡ written.True at → ⊥) → P (faults.Syntax left)) → ((left : ℕ) → value ≡ written.True left → P (faults.LeftOut left)) → quiet_value value ≡ Err e → P e
   quiet-value-fails P e (written.False left) p q h = ok-fails tt e h
   quiet-value-fails P e (written.True left) p q h = carry P (faults.LeftOut left) e (q left refl) h
-  quiet-value-fails P e (written.Local name) p q h = carry P (faults.Syntax name.left) e (p name.left (λ at same. absurd cc)) h
-  quiet-value-fails P e (written.Number number) p q h = carry P (faults.Syntax number.left) e (p number.left (λ at same. absurd cc)) h
-  quiet-value-fails P e (written.Null left) p q h = carry P (faults.Syntax left) e (p left (λ at same. absurd cc)) h
-  quiet-value-fails P e (written.Poison left) p q h = carry P (faults.Syntax left) e (p left (λ at same. absurd cc)) h
-  quiet-value-fails P e (written.Address address) p q h = carry P (faults.Syntax address.left) e (p address.left (λ at same. absurd cc)) h
+  quiet-value-fails P e (written.Local name) p q h = carry P (faults.Syntax name.left) e (p name.left (λ at same. absurd cc) (λ at same. absurd cc)) h
+  quiet-value-fails P e (written.Number number) p q h = carry P (faults.Syntax number.left) e (p number.left (λ at same. absurd cc) (λ at same. absurd cc)) h
+  quiet-value-fails P e (written.Null left) p q h = carry P (faults.Syntax left) e (p left (λ at same. absurd cc) (λ at same. absurd cc)) h
+  quiet-value-fails P e (written.Poison left) p q h = carry P (faults.Syntax left) e (p left (λ at same. absurd cc) (λ at same. absurd cc)) h
+  quiet-value-fails P e (written.Address address) p q h = carry P (faults.Syntax address.left) e (p address.left (λ at same. absurd cc) (λ at same. absurd cc)) h
 
   quiet-argument-fails : (e : Fault) (callee : Name) (arguments : List Typed) (last : Option Typed) → IsMemoryCallee callee → slice_get arguments (length arguments - 1) ≡ last → quiet_argument callee.left last ≡ Err e → QuietFault callee arguments e
-  quiet-argument-fails e callee arguments None moves is h = carry (QuietFault callee arguments) (faults.Syntax callee.left) e (moves, λ last left some same. absurd cc) h
+  quiet-argument-fails e callee arguments None moves is h = carry (QuietFault callee arguments) (faults.Syntax callee.left) e (moves, ((λ left ends. let some = ends.1 in absurd cc), (λ left ends. let some = ends.1 in absurd cc))) h
   quiet-argument-fails e callee arguments (Some given) moves is h = quiet-value-fails (QuietFault callee arguments) e given.value
-      (λ left never. (moves, λ last at some same. never at (let one_ : given ≡ last = cc in ap (λ (t : Typed). t.value) one_ ∙ same)))
+      (λ left no_false no_true. (moves, ((λ at ends. no_false at (one-value ends.0 ends.1 ∙ ends.2)), (λ at ends. no_true at (one-value ends.0 ends.1 ∙ ends.2)))))
       (λ left same. (moves, (given, is, same))) h
+    where
+      one-value : (last : Typed) → slice_get arguments (length arguments - 1) ≡ Some last → given.value ≡ last.value
+      one-value last some = let one_ : given ≡ last = cc in ap (λ (t : Typed). t.value) one_
 
   quiet-fails : (e : Fault) (callee : Name) (named : NamedBuiltIn) (arguments : List Typed) → NamesBuiltIn callee named → quiet callee.left named.which arguments ≡ Err e → QuietFault callee arguments e
   quiet-fails e callee named arguments is h = by (is_of_memory named.which) refl h

@@ -1,11 +1,11 @@
 -- The built-ins, by their names and what stands behind them.
-use Rattle.std.specs.Prelude.{ℕ, Bool, true, false, ◌&&◌, ◌-◌, nat_le, nat_lt, List, length, take, drop, codes, Option, Some, None, Result, Ok, Err, slice_get, if◌then◌else◌}
+use Rattle.std.specs.Prelude.{ℕ, Bool, true, false, not, ◌&&◌, ◌-◌, nat_eq, nat_le, nat_lt, List, [], ◌∷◌, length, take, drop, codes, Option, Some, None, Result, Ok, Err, slice_get, if◌then◌else◌}
 use Rattle.std.specs.List.{list_all}
 use Rattle.std.specs.Str.{bytes_eq}
 use Rattle.std.specs.Char.{is_ascii_digit}
-use Rattle.ir_grammar.specs.declared.value_tree.Value.{Value}
-use Rattle.ir_grammar.specs.declared.value_tree.Value.TheVariants as written
-use Rattle.ir_grammar.specs.declared.value_tree.Typed.{Typed}
+use Rattle.ir_value_trees.specs.declared.value_tree.Value.{Value}
+use Rattle.ir_value_trees.specs.declared.value_tree.Value.TheVariants as written
+use Rattle.ir_value_trees.specs.declared.value_tree.Typed.{Typed}
 use Rattle.ir_core.specs.declared.types.TheConstants.{MAX_WIDTH}
 use Rattle.ir_core.specs.declared.types.Ty.{Ty}
 use Rattle.ir_core.specs.declared.types.Ty.TheVariants as values
@@ -18,13 +18,18 @@ use Rattle.ir_types.specs.Numbers.{natural}
 use Rattle.ir_resolve.specs.Operands.{is_ty}
 use Rattle.ir_instructions.specs.declared.built_ins.NamedBuiltIn.{NamedBuiltIn}
 
+-- decimal digits of which the first isn't 0
+abbrev pub are_plain_digits : List ℕ → Bool
+are_plain_digits [] = false
+are_plain_digits (digit ∷ digits) = not (nat_eq digit 48) && list_all is_ascii_digit (digit ∷ digits)
+
 -- a width that decimal digits say
 abbrev pub small_width : Option ℕ → Option ℕ
 small_width None = None
 small_width (Some w) = if nat_le 1 w && nat_le w MAX_WIDTH then Some w else None
 
 unfoldable pub width_of_digits : List ℕ → Option ℕ
-width_of_digits digits = if list_all is_ascii_digit digits then small_width (natural digits) else None
+width_of_digits digits = if are_plain_digits digits then small_width (natural digits) else None
 
 -- the width that stands behind the front of a name
 unfoldable pub width_behind : List ℕ → List ℕ → Option ℕ

@@ -3,13 +3,13 @@ use Rattle.std.specs.Prelude.{◌≡◌, ◌⊎◌, ℕ, Bool, true, false, ◌&
 use Rattle.std.specs.List.{starts_with}
 use Rattle.ir_text.specs.declared.name.Name.{Name}
 use Rattle.ir_grammar.specs.declared.type_tree.TypeNode.{TypeNode}
-use Rattle.ir_grammar.specs.declared.value_tree.Value.{Value}
-use Rattle.ir_grammar.specs.declared.value_tree.Value.TheVariants as written
-use Rattle.ir_grammar.specs.declared.value_tree.Typed.{Typed}
-use Rattle.ir_tree.specs.declared.tree.Incoming.{Incoming}
-use Rattle.ir_tree.specs.declared.tree.Case.{Case}
-use Rattle.ir_tree.specs.declared.tree.Operation.{Operation}
-use Rattle.ir_tree.specs.declared.tree.Operation.TheVariants as operations
+use Rattle.ir_value_trees.specs.declared.value_tree.Value.{Value}
+use Rattle.ir_value_trees.specs.declared.value_tree.Value.TheVariants as written
+use Rattle.ir_value_trees.specs.declared.value_tree.Typed.{Typed}
+use Rattle.ir_instruction_trees.specs.declared.tree.Incoming.{Incoming}
+use Rattle.ir_instruction_trees.specs.declared.tree.Case.{Case}
+use Rattle.ir_instruction_trees.specs.declared.tree.Operation.{Operation}
+use Rattle.ir_instruction_trees.specs.declared.tree.Operation.TheVariants as operations
 use Rattle.ir_core.specs.declared.code.Operand.{Operand}
 use Rattle.ir_core.specs.declared.types.Ty.{Ty}
 use Rattle.ir_core.specs.declared.types.Ty.TheVariants as values
@@ -132,9 +132,13 @@ IsMemoryCallee name = (named : NamedBuiltIn) × NamesBuiltIn name named × (is_o
 abbrev pub EndsByTrue : List Typed → ℕ → Type 0
 EndsByTrue arguments left = (last : Typed) × (slice_get arguments (length arguments - 1) ≡ Some last) × (last.value ≡ written.True left)
 
--- the last argument isn't written `false`
+-- the last argument is written `false`, at the place
+abbrev pub EndsByFalse : List Typed → ℕ → Type 0
+EndsByFalse arguments left = (last : Typed) × (slice_get arguments (length arguments - 1) ≡ Some last) × (last.value ≡ written.False left)
+
+-- the last argument is written neither `false` nor `true`
 abbrev pub EndsOtherwise : List Typed → Type 0
-EndsOtherwise arguments = (last : Typed) (left : ℕ) → slice_get arguments (length arguments - 1) ≡ Some last → last.value ≡ written.False left → ⊥
+EndsOtherwise arguments = ((left : ℕ) → EndsByFalse arguments left → ⊥) × ((left : ℕ) → EndsByTrue arguments left → ⊥)
 
 abbrev pub QuietFault : Name → List Typed → Fault → Type 0
 QuietFault name arguments faults.NoMemory = ⊥

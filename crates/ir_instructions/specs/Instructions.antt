@@ -3,12 +3,12 @@ use Rattle.std.specs.Prelude.{ℕ, Bool, not, ◌&&◌, nat_eq, List, [], ◌∷
 use Rattle.std.specs.List.{starts_with}
 use Rattle.ir_text.specs.declared.name.Name.{Name}
 use Rattle.ir_grammar.specs.declared.type_tree.TypeNode.{TypeNode}
-use Rattle.ir_grammar.specs.declared.value_tree.Value.{Value}
-use Rattle.ir_grammar.specs.declared.value_tree.Typed.{Typed}
-use Rattle.ir_tree.specs.declared.tree.Incoming.{Incoming}
-use Rattle.ir_tree.specs.declared.tree.Case.{Case}
-use Rattle.ir_tree.specs.declared.tree.Operation.{Operation}
-use Rattle.ir_tree.specs.declared.tree.Operation.TheVariants as operations
+use Rattle.ir_value_trees.specs.declared.value_tree.Value.{Value}
+use Rattle.ir_value_trees.specs.declared.value_tree.Typed.{Typed}
+use Rattle.ir_instruction_trees.specs.declared.tree.Incoming.{Incoming}
+use Rattle.ir_instruction_trees.specs.declared.tree.Case.{Case}
+use Rattle.ir_instruction_trees.specs.declared.tree.Operation.{Operation}
+use Rattle.ir_instruction_trees.specs.declared.tree.Operation.TheVariants as operations
 use Rattle.ir_core.specs.declared.types.Ty.{Ty}
 use Rattle.ir_core.specs.declared.types.Ty.TheVariants as values
 use Rattle.ir_core.specs.declared.code.Operand.{Operand}

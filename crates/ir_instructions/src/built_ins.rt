@@ -4,14 +4,14 @@ ghost use Rattle.std.specs.Option.{option_copied};
 ghost use Rattle.std.specs.List.{list_all};
 ghost use Rattle.std.specs.Char.{is_ascii_digit};
 ghost use Rattle.ir_types.specs.Walk.{Gives};
-ghost use Rattle.ir_instructions.specs.BuiltIns.{small_width, width_of_digits, width_behind, with_width, or_named, built_in, memory_named, integer_named, built_in_of, is_of_memory, measured, has_width, quiet_value, quiet_argument, quiet, fitting};
+ghost use Rattle.ir_instructions.specs.BuiltIns.{are_plain_digits, small_width, width_of_digits, width_behind, with_width, or_named, built_in, memory_named, integer_named, built_in_of, is_of_memory, measured, has_width, quiet_value, quiet_argument, quiet, fitting};
 
 use ir_core::code::{BuiltIn, Operand};
 use ir_core::types::{MAX_WIDTH, Ty};
-use ir_grammar::value_tree::{Typed, Value};
 use ir_grammar::words::says;
 use ir_resolve::operands::is_ty;
 use ir_types::{Fault, natural};
+use ir_value_trees::value_tree::{Typed, Value};
 
 /// A built-in, and the width that its name says.
 #[derive(Clone, Copy, PartialEq, Eq, Drop)]
@@ -40,11 +40,21 @@ fn are_digits(text: &[u8]) -> bool
     text.iter().all(|byte| byte.is_ascii_digit())
 }
 
+/// Decimal digits of which the first isn't 0.
+fn are_plain_digits(text: &[u8]) -> bool
+    ensures { result ≡ are_plain_digits text.now }
+{
+    match text {
+        [first, ..] => *first != b'0' && are_digits(text),
+        [] => false,
+    }
+}
+
 #[tactic(auto, unfolding(crate::specs::BuiltIns::width_of_digits))]
 fn width_of_digits(digits: &[u8]) -> Option<u32>
     ensures { result ≡ width_of_digits digits.now }
 {
-    if are_digits(digits) {
+    if are_plain_digits(digits) {
         small_width(natural(digits))
     } else {
         None

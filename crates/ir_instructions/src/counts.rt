@@ -5,12 +5,12 @@ ghost use Rattle.ir_instructions.specs.Counts.{small_number, small_align, align_
 
 use ir_core::types::Ty;
 use ir_grammar::type_tree::Align;
-use ir_grammar::value_tree::{Typed, Value};
 use ir_resolve::literal_of;
 use ir_resolve::operands::place_of_value;
 use ir_resolve::scope::Outer;
 use ir_text::Number;
 use ir_types::{Fault, Step, natural, type_of, walk};
+use ir_value_trees::value_tree::{Typed, Value};
 
 fn small_number(number: Option<u128>) -> bool
     ensures { result ≡ small_number number }

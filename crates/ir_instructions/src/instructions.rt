@@ -8,14 +8,14 @@ use crate::lists::{case_list, incoming_list, typed_list};
 use ir_core::code::{BinOp, CastOp, Flags, Op, Pred};
 use ir_core::types::Ty;
 use ir_grammar::type_tree::{Align, TypeNode};
-use ir_grammar::value_tree::{Typed, Value};
+use ir_instruction_trees::{Case, Incoming, Operation};
 use ir_resolve::operands::{
     block_of, is_ty, operand, place_of_type, place_of_value, typed, typed_as,
 };
 use ir_resolve::scope::Outer;
 use ir_text::Name;
-use ir_tree::{Case, Incoming, Operation};
 use ir_types::{Fault, Named, Table, Target, bytes_of, memory, type_of};
+use ir_value_trees::value_tree::{Typed, Value};
 
 /// The type of an instruction's result; `void` where it has none.
 #[tactic(auto, unfolding(crate::specs::Instructions::result_type))]

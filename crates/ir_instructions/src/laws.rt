@@ -6,8 +6,8 @@ ghost use Rattle.ir_instructions.specs.Causes.{Unanswered, asks};
 
 use ir_core::types::Ty;
 use ir_grammar::type_tree::{Align, TypeNode};
+use ir_instruction_trees::Operation;
 use ir_resolve::scope::Outer;
-use ir_tree::Operation;
 use ir_types::{Fault, Table};
 
 /// A law: the fault of an operation, in a function with this result, is that of something that it asks.

@@ -5,11 +5,11 @@ ghost use Rattle.ir_instructions.specs.Instructions.{typed_step, typed_list, inc
 
 use ir_core::code::Operand;
 use ir_core::types::Ty;
-use ir_grammar::value_tree::Typed;
+use ir_instruction_trees::{Case, Incoming};
 use ir_resolve::operands::{block_of, operand, place_of_value, typed, typed_as};
 use ir_resolve::scope::Outer;
-use ir_tree::{Case, Incoming};
 use ir_types::{Fault, Step, Table, walk};
+use ir_value_trees::value_tree::Typed;
 use sqlite_items::Items;
 
 /// What is known inside a function.

@@ -8,9 +8,9 @@ use Rattle.ir_core.specs.declared.program.Init.{Init, fold-roll-Init}
 use Rattle.ir_core.specs.declared.program.Init.TheVariants as init
 use Rattle.ir_core.specs.declared.program.Init.TheOpen as open_init
 use Rattle.ir_core.specs.declared.program.Global.{Global}
-use Rattle.ir_print.specs.Names.{quoted_text}
+use Rattle.ir_print_names.specs.Names.{quoted_text}
 use Rattle.ir_print.specs.Types.{integer_text, comma, listed, opening_of, ending_of, memory_step, memory_text}
-use Rattle.ir_print.specs.Numbers.{number_text}
+use Rattle.ir_print_names.specs.Numbers.{number_text}
 use Rattle.ir_print.specs.Values.{width_of_memory, place_text, list_text, init_step, init_text}
 
 pub listed_map : {X Y : Type 0} (text : Y → List ℕ) (f : X → Y) (number : ℕ) (xs : List X) → listed text number (map f xs) ≡ listed (λ x. text (f x)) number xs

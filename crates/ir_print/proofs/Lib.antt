@@ -1,4 +1,2 @@
 pub mod Layers
 pub mod Lines
-pub mod NamesBack
-pub mod NumbersBack

@@ -8,7 +8,7 @@ use Rattle.ir_core.specs.declared.program.Global.{Global}
 use Rattle.ir_core.specs.declared.program.Function.{Function}
 use Rattle.ir_core.specs.declared.program.Module.{Module}
 use Rattle.ir_core.specs.Units.{has_result, results}
-use Rattle.ir_print.specs.Names.{name_text}
+use Rattle.ir_print_names.specs.Names.{name_text}
 use Rattle.ir_print.specs.Types.{comma, ty_text, memory_text}
 use Rattle.ir_print.specs.Values.{init_text}
 use Rattle.ir_print.specs.Instructions.{inst_text}

@@ -9,8 +9,8 @@ use Rattle.ir_core.specs.declared.code.Operand.TheVariants as operands
 use Rattle.ir_core.specs.declared.program.Init.{Init, fold-Init}
 use Rattle.ir_core.specs.declared.program.Init.TheOpen as inits
 use Rattle.ir_core.specs.declared.program.Global.{Global}
-use Rattle.ir_print.specs.Names.{name_text, quoted_text}
-use Rattle.ir_print.specs.Numbers.{number_text}
+use Rattle.ir_print_names.specs.Names.{name_text, quoted_text}
+use Rattle.ir_print_names.specs.Numbers.{number_text}
 use Rattle.ir_print.specs.Types.{ty_text, comma, opening_of, ending_of, memory_text}
 
 abbrev pub width_of : Ty → ℕ

@@ -3,10 +3,10 @@ ghost use Rattle.ir_core.specs.Units.{results};
 ghost use Rattle.ir_print.specs.Modules.{next_value, insts_text, blocks_text};
 
 use crate::instructions::{has_result, inst};
-use crate::page::Page;
 use ir_core::code::{Block, Inst};
 use ir_core::program::Module;
 use ir_core::types::Ty;
+use ir_print_names::Page;
 use rj_num::NoMemory;
 
 /// The number behind a value's. A function of 2^64 values doesn't fit in memory.

@@ -6,14 +6,12 @@ ghost use Rattle.ir_print.specs.Types.{ty_text, memory_text, listed};
 ghost use Rattle.ir_print.specs.Values.{operand_text, typed_text};
 ghost use Rattle.ir_print.specs.Instructions.{flag_text, flags_text, binary_word, predicate_word, cast_word, width_of_length, width_of_value, built_in_front, built_in_width, built_in_text, function_of, function_text, block_text, incoming_text, argument_text, offset_text, case_text, count_text, call_text, return_text, op_text, result_text, inst_text};
 
-use crate::names::name;
-use crate::numbers::number;
-use crate::page::Page;
 use crate::types::{comma, memory, ty};
 use crate::values::{operand, typed, width_of};
 use ir_core::code::{BinOp, BuiltIn, CastOp, Flags, Inst, Op, Operand, Pred};
 use ir_core::program::{Function, Global, Module};
 use ir_core::types::{MemTy, Ty};
+use ir_print_names::{Page, name, number};
 use rj_num::NoMemory;
 
 fn flag(page: &mut Page, is_set: bool, word: &[u8]) -> Result<(), NoMemory>

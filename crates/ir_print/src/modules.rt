@@ -1,17 +1,16 @@
 ghost use Rattle.std.specs.Prelude.{◌≡◌, ◌++◌, ◌==◌, [], OnOk, IfOk, codes, decimal, if◌then◌else◌, length};
 ghost use Rattle.std.specs.List.{flat_map};
 ghost use Rattle.ir_print.specs.Types.{comma, ty_text, memory_text};
-ghost use Rattle.ir_print.specs.Names.{name_text};
+ghost use Rattle.ir_print_names.specs.Names.{name_text};
 ghost use Rattle.ir_print.specs.Values.{init_text};
 ghost use Rattle.ir_print.specs.Modules.{params_text, blocks_text, function_lines, global_line, module_text};
 
 use crate::blocks::blocks;
-use crate::names::name;
-use crate::page::Page;
 use crate::types::{comma, memory, ty};
 use crate::values::init;
 use ir_core::program::{Function, Global, Module};
 use ir_core::types::Ty;
+use ir_print_names::{Page, name};
 use rj_num::NoMemory;
 use std::alloc::Global as Alloc;
 

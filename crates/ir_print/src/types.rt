@@ -1,8 +1,8 @@
 ghost use Rattle.std.specs.Prelude.{◌≡◌, ◌++◌, OnOk, codes, decimal, nat_eq, length};
 ghost use Rattle.ir_print.specs.Types.{integer_text, ty_text, opening, ending, opening_of, ending_of, comma, listed, memory_text};
 
-use crate::page::Page;
 use ir_core::types::{MemTy, Ty};
+use ir_print_names::Page;
 use rj_num::NoMemory;
 
 pub fn integer(page: &mut Page, width: u32) -> Result<(), NoMemory>

@@ -1,18 +1,16 @@
 ghost use Rattle.std.specs.Prelude.{◌≡◌, ◌≤◌, ◌++◌, OnOk, map, slice_get, codes, decimal, if◌then◌else◌};
 ghost use Rattle.std.specs.Option.{option_copied};
-ghost use Rattle.ir_print.specs.Names.{quoted_text};
+ghost use Rattle.ir_print_names.specs.Names.{quoted_text};
 ghost use Rattle.ir_core.specs.declared.types.MemTy.{out-MemTy};
 ghost use Rattle.ir_print.specs.Types.{comma, memory_text};
-ghost use Rattle.ir_print.specs.Numbers.{number_text};
+ghost use Rattle.ir_print_names.specs.Numbers.{number_text};
 ghost use Rattle.ir_print.specs.Values.{width_of, width_of_memory, global_of, global_text, place_text, operand_text, typed_text, part_of, list_opening, list_ending, part_text, list_text, init_text};
 
-use crate::names::{name, quoted};
-use crate::numbers::number;
-use crate::page::Page;
 use crate::types::{comma, lead, memory, tail, ty};
 use ir_core::code::Operand;
 use ir_core::program::{Global, Init};
 use ir_core::types::{MemTy, Ty};
+use ir_print_names::{Page, name, number, quoted};
 use rj_num::NoMemory;
 
 pub fn width_of(ty: Ty) -> u32

@@ -13,8 +13,8 @@ use Rattle.ir_core.proofs.Layouts.{extent-Int}
 use Rattle.ir_flow.specs.Limits.{measured, measured_step, capped_passing}
 use Rattle.ir_flow.specs.declared.sizes.Measured.{Measured}
 use Rattle.ir_grammar.specs.declared.type_tree.TypeNode.TheVariants as nodes
-use Rattle.ir_grammar.specs.declared.value_tree.Index.{Index}
-use Rattle.ir_grammar.specs.declared.value_tree.Address.{Address}
+use Rattle.ir_value_trees.specs.declared.value_tree.Index.{Index}
+use Rattle.ir_value_trees.specs.declared.value_tree.Address.{Address}
 use Rattle.ir_types.specs.declared.tables.Target.TheVariants as targets
 use Rattle.ir_types.specs.Walk.{walk}
 use Rattle.ir_types.specs.Numbers.{natural, digits_onto}

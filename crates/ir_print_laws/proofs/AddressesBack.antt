@@ -9,15 +9,15 @@ use Rattle.ir_text.specs.Words.{punctuation, keyword, global_name}
 use Rattle.ir_grammar.specs.declared.type_tree.TypeNode.{TypeNode}
 use Rattle.ir_grammar.specs.declared.type_tree.TypeNode.TheVariants as nodes
 use Rattle.ir_grammar.specs.Types.{integer, type_form}
-use Rattle.ir_grammar.specs.declared.value_tree.Index.{Index}
-use Rattle.ir_grammar.specs.declared.value_tree.Address.{Address}
-use Rattle.ir_grammar.specs.declared.value_tree.Value.TheVariants as written
-use Rattle.ir_grammar.specs.declared.values.AddressWordList.{AddressWordList}
-use Rattle.ir_grammar.specs.declared.values.IndexList.{IndexList}
-use Rattle.ir_grammar.specs.declared.values.HeadList.{HeadList}
-use Rattle.ir_grammar.specs.declared.values.TailList.{TailList}
-use Rattle.ir_grammar.specs.Values.{address_word_turn, address_words, index_form, index_turn, address_head, head_turn, address_tail, tail_turn, address_heads, address_tails, address, operand}
-use Rattle.ir_print.specs.Names.{name_text}
+use Rattle.ir_value_trees.specs.declared.value_tree.Index.{Index}
+use Rattle.ir_value_trees.specs.declared.value_tree.Address.{Address}
+use Rattle.ir_value_trees.specs.declared.value_tree.Value.TheVariants as written
+use Rattle.ir_value_trees.specs.declared.values.AddressWordList.{AddressWordList}
+use Rattle.ir_value_trees.specs.declared.values.IndexList.{IndexList}
+use Rattle.ir_value_trees.specs.declared.values.HeadList.{HeadList}
+use Rattle.ir_value_trees.specs.declared.values.TailList.{TailList}
+use Rattle.ir_value_trees.specs.Values.{address_word_turn, address_words, index_form, index_turn, address_head, head_turn, address_tail, tail_turn, address_heads, address_tails, address, operand}
+use Rattle.ir_print_names.specs.Names.{name_text}
 use Rattle.ir_print_laws.specs.FormTrees.{IsOffsetTree, IsAddressTree}
 use Rattle.ir_print_laws.proofs.Tokens.{token_blank}
 use Rattle.ir_print_laws.proofs.Segments.{one_turn, no_turn, all_turns}

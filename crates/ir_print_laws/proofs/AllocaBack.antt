@@ -9,11 +9,11 @@ use Rattle.ir_core.specs.Layout.{measure}
 use Rattle.ir_grammar.specs.declared.type_tree.TypeNode.{TypeNode}
 use Rattle.ir_grammar.specs.declared.type_tree.TypeNode.TheVariants as nodes
 use Rattle.ir_grammar.specs.Types.{type_form}
-use Rattle.ir_grammar.specs.declared.value_tree.Value.TheVariants as written
-use Rattle.ir_grammar.specs.declared.value_tree.Typed.{Typed}
-use Rattle.ir_grammar.specs.Values.{typed}
-use Rattle.ir_tree.specs.declared.tree.Operation.TheVariants as operations
-use Rattle.ir_tree.specs.Instructions.{count, allocation}
+use Rattle.ir_value_trees.specs.declared.value_tree.Value.TheVariants as written
+use Rattle.ir_value_trees.specs.declared.value_tree.Typed.{Typed}
+use Rattle.ir_value_trees.specs.Values.{typed}
+use Rattle.ir_instruction_trees.specs.declared.tree.Operation.TheVariants as operations
+use Rattle.ir_instruction_trees.specs.Instructions.{count, allocation}
 use Rattle.ir_print.specs.Types.{memory_text}
 use Rattle.ir_print.specs.Instructions.{count_text}
 use Rattle.ir_print_laws.specs.FormTrees.{IsMemoryTree}

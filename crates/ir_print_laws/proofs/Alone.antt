@@ -10,7 +10,7 @@ use Rattle.ir_types.specs.Replaced.{Definitions}
 use Rattle.ir_resolve.specs.Named.{names_of, bodies_of, IsTypesOf}
 use Rattle.ir_tree.specs.declared.tree.Tree.{Tree}
 use Rattle.ir_tree.specs.declared.tree.NamedType.{NamedType}
-use Rattle.ir_reader.specs.Functions.{module_with, IsModuleOf}
+use Rattle.ir_functions.specs.Functions.{module_with, IsModuleOf}
 use Rattle.ir_reader.specs.Reads.{Reads}
 use Rattle.ir_reader.proofs.Refusals.{one_tree}
 use Rattle.ir_print.specs.Modules.{module_text as printed}

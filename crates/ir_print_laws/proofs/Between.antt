@@ -14,8 +14,8 @@ use Rattle.ir_grammar.specs.declared.words.AttributeList.{AttributeList}
 use Rattle.ir_grammar.specs.declared.words.SuffixList.{SuffixList}
 use Rattle.ir_grammar.specs.Words.{is_int_name, is_lower_byte, begins_word_item, begins_attribute, word_turn, words, attribute_turn, attributes, suffix_turn, suffixes}
 use Rattle.ir_grammar.specs.Types.{scalar, scalar_of, type_start, type_turn, type_form}
-use Rattle.ir_grammar.specs.declared.value_tree.Value.{Value}
-use Rattle.ir_grammar.specs.Values.{word_value, word_value_of, word_operand, operand}
+use Rattle.ir_value_trees.specs.declared.value_tree.Value.{Value}
+use Rattle.ir_value_trees.specs.Values.{word_value, word_value_of, word_operand, operand}
 use Rattle.ir_print_laws.proofs.Segments.{no_turn, all_turns}
 
 pub no_words : (t : List ℕ) → begins_word_item (token_at t).0 ≡ false → words.Is t tt t

@@ -12,15 +12,15 @@ use Rattle.ir_core.specs.declared.code.Block.{Block}
 use Rattle.ir_core.specs.declared.program.Module.{Module}
 use Rattle.ir_core.specs.Units.{has_result, results}
 use Rattle.ir_grammar.specs.Words.{begins_attribute}
-use Rattle.ir_tree.specs.declared.tree.Instruction.{Instruction}
+use Rattle.ir_instruction_trees.specs.declared.tree.Instruction.{Instruction}
 use Rattle.ir_tree.specs.declared.tree.Block.{Block as BlockText}
 use Rattle.ir_tree.specs.declared.modules.InstructionList.{InstructionList}
 use Rattle.ir_tree.specs.declared.modules.BlockList.{BlockList}
-use Rattle.ir_tree.specs.Instructions.{instruction}
+use Rattle.ir_instruction_trees.specs.Instructions.{instruction}
 use Rattle.ir_tree.specs.Modules.{ends_block, instruction_turn, instructions, block_label, block, block_turn, block_list, body}
 use Rattle.ir_print.specs.Instructions.{result_text, op_text}
 use Rattle.ir_print.specs.Modules.{next_value, insts_text, blocks_text}
-use Rattle.ir_print.proofs.NamesBack.{run_front, run_back, digits_are_names}
+use Rattle.ir_print_names.proofs.NamesBack.{run_front, run_back, digits_are_names}
 use Rattle.ir_print_laws.specs.FormTrees.{IsBlockName}
 use Rattle.ir_print_laws.proofs.Joined.{◌▸◌, nest3, nest5}
 use Rattle.ir_print_laws.proofs.Tokens.{Ends, decimal_digits}

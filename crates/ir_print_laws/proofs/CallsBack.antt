@@ -12,14 +12,14 @@ use Rattle.ir_core.specs.declared.program.Global.{Global}
 use Rattle.ir_grammar.specs.declared.type_tree.TypeNode.{TypeNode}
 use Rattle.ir_grammar.specs.Words.{begins_word_item, begins_attribute, words, attributes, suffixes}
 use Rattle.ir_grammar.specs.Types.{type_form}
-use Rattle.ir_grammar.specs.declared.value_tree.Value.{Value}
-use Rattle.ir_grammar.specs.declared.value_tree.Typed.{Typed}
-use Rattle.ir_grammar.specs.Values.{is_local, operand, argument}
-use Rattle.ir_tree.specs.declared.tree.Operation.TheVariants as operations
-use Rattle.ir_tree.specs.declared.tree.Instruction.{Instruction}
-use Rattle.ir_tree.specs.declared.instructions.ArgumentList.{ArgumentList}
-use Rattle.ir_tree.specs.Instructions.{argument_turn, argument_list, arguments, tail_word, call_start, is_dropped_name, call_rest, call}
-use Rattle.ir_print.specs.Names.{name_text}
+use Rattle.ir_value_trees.specs.declared.value_tree.Value.{Value}
+use Rattle.ir_value_trees.specs.declared.value_tree.Typed.{Typed}
+use Rattle.ir_value_trees.specs.Values.{is_local, operand, argument}
+use Rattle.ir_instruction_trees.specs.declared.tree.Operation.TheVariants as operations
+use Rattle.ir_instruction_trees.specs.declared.tree.Instruction.{Instruction}
+use Rattle.ir_instruction_trees.specs.declared.instructions.ArgumentList.{ArgumentList}
+use Rattle.ir_instruction_trees.specs.Instructions.{argument_turn, argument_list, arguments, tail_word, call_start, is_dropped_name, call_rest, call}
+use Rattle.ir_print_names.specs.Names.{name_text}
 use Rattle.ir_print.specs.Types.{ty_text, listed}
 use Rattle.ir_print.specs.Values.{operand_text}
 use Rattle.ir_print.specs.Instructions.{argument_text, call_text}

@@ -16,7 +16,7 @@ use Rattle.ir_types.specs.Numbers as numbers
 use Rattle.ir_resolve.specs.Literals.{literal_of}
 use Rattle.ir_print_laws.specs.FormTrees.{has_sign, IsCount, IsSignedTree}
 use Rattle.ir_print_laws.proofs.Tokens.{decimal_digits}
-use Rattle.ir_print.proofs.NamesBack.{both_true}
+use Rattle.ir_print_names.proofs.NamesBack.{both_true}
 
 digit_says : (d : ℕ) → is_ascii_digit d ≡ true → digit_value d ≡ d - 48
 digit_says d e = grind (arith, e)

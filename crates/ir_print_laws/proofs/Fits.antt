@@ -7,7 +7,7 @@ use Rattle.ir_core.specs.declared.program.Function.{Function}
 use Rattle.ir_core.specs.declared.program.Module.{Module}
 use Rattle.ir_instructions.specs.BuiltIns.{built_in_of, memory_named, integer_named, width_behind}
 use Rattle.ir_print.specs.Instructions.{function_of as name_in}
-use Rattle.ir_print.proofs.NamesBack.{both_true}
+use Rattle.ir_print_names.proofs.NamesBack.{both_true}
 use Rattle.ir_print_laws.proofs.Tokens.{decimal_digits}
 use Rattle.ir_print_laws.specs.Written.{Each}
 use Rattle.ir_print_laws.specs.Fits.{AreBytes, IsOwnName, FitsTy, block_parts, FitsBlocks, FitsFunction, HasOwnName, FitsModule, counts_of}

@@ -22,10 +22,10 @@ use Rattle.ir_core.specs.declared.program.Function.{Function}
 use Rattle.ir_core.specs.declared.program.Module.{Module}
 use Rattle.ir_core.specs.Units.{is_result, parts_in}
 use Rattle.ir_core.specs.Layout.{is_memory_width}
-use Rattle.ir_tree.specs.Instructions.{is_dropped_name}
+use Rattle.ir_instruction_trees.specs.Instructions.{is_dropped_name}
 use Rattle.ir_core.specs.Units.{results, has_result}
 use Rattle.ir_core.specs.declared.code.Operand.{Operand}
-use Rattle.ir_print.specs.Names.{is_bare, is_numeral, is_plain, hexadecimal_digit, quoted_byte, name_text}
+use Rattle.ir_print_names.specs.Names.{is_bare, is_numeral, is_plain, hexadecimal_digit, quoted_byte, name_text}
 use Rattle.ir_print.specs.Types.{comma, listed, ty_text, opening_of, ending_of, memory_text}
 use Rattle.ir_print.specs.Values.{list_text, init_text}
 use Rattle.ir_print.specs.Instructions.{function_of, incoming_text, result_text, op_text, inst_text}

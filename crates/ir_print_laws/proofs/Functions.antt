@@ -12,7 +12,7 @@ use Rattle.ir_core.specs.declared.code.Block.{Block}
 use Rattle.ir_core.specs.declared.program.Function.{Function}
 use Rattle.ir_core.specs.declared.program.Module.{Module}
 use Rattle.ir_core.specs.Units.{parts_in, is_result, has_result, results}
-use Rattle.ir_tree.specs.declared.tree.Instruction.{Instruction}
+use Rattle.ir_instruction_trees.specs.declared.tree.Instruction.{Instruction}
 use Rattle.ir_tree.specs.declared.tree.Block.{Block as BlockText}
 use Rattle.ir_tree.specs.declared.tree.Parameter.{Parameter}
 use Rattle.ir_tree.specs.declared.tree.Function.{Function as FunctionText}
@@ -24,10 +24,10 @@ use Rattle.ir_types.specs.Tables.{target_named}
 use Rattle.ir_types.specs.declared.names.Table.{Table}
 use Rattle.ir_types.specs.Names.{Symbols, is_numbered, bytes_of, named_target, target_of}
 use Rattle.ir_resolve.specs.Operands.{is_ty, local_operand, block_of}
-use Rattle.ir_reader.specs.declared.locals.Numbering.{Numbering}
-use Rattle.ir_reader.specs.declared.locals.ParamList.{ParamList}
-use Rattle.ir_reader.specs.declared.locals.BodyNames.{BodyNames}
-use Rattle.ir_reader.specs.Functions.{bytes_local, name_local, parameter_step, no_result, some_result, result_step, label, label_step, inst_step, block_step, body_names, parameters, body, unit_step, block_units_step, units_of, function}
+use Rattle.ir_functions.specs.declared.locals.Numbering.{Numbering}
+use Rattle.ir_functions.specs.declared.locals.ParamList.{ParamList}
+use Rattle.ir_functions.specs.declared.locals.BodyNames.{BodyNames}
+use Rattle.ir_functions.specs.Functions.{bytes_local, name_local, parameter_step, no_result, some_result, result_step, label, label_step, inst_step, block_step, body_names, parameters, body, unit_step, block_units_step, units_of, function}
 use Rattle.ir_print.specs.Values.{global_of}
 use Rattle.ir_print.specs.Instructions.{function_of}
 use Rattle.ir_print.specs.Modules.{next_value}

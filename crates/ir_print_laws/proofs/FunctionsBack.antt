@@ -18,7 +18,7 @@ use Rattle.ir_tree.specs.declared.tree.Function.{Function as FunctionText}
 use Rattle.ir_tree.specs.declared.modules.ParameterList.{ParameterList}
 use Rattle.ir_tree.specs.declared.modules.FunctionAttributeList.{FunctionAttributeList}
 use Rattle.ir_tree.specs.Modules.{parameter_name, parameter, parameter_turn, parameter_list, parameters, function_attribute_turn, function_attributes, body, function}
-use Rattle.ir_print.specs.Names.{name_text}
+use Rattle.ir_print_names.specs.Names.{name_text}
 use Rattle.ir_print.specs.Types.{ty_text}
 use Rattle.ir_print.specs.Modules.{params_text, blocks_text, function_lines}
 use Rattle.ir_print_laws.specs.FormTrees.{IsValueName, IsTyTree}

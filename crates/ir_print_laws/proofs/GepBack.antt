@@ -15,12 +15,12 @@ use Rattle.ir_core.specs.Layout.{measure}
 use Rattle.ir_grammar.specs.declared.type_tree.TypeNode.{TypeNode}
 use Rattle.ir_grammar.specs.Words.{is_int_name, begins_word_item, words}
 use Rattle.ir_grammar.specs.Types.{is_int, type_form}
-use Rattle.ir_grammar.specs.declared.value_tree.Typed.{Typed}
-use Rattle.ir_grammar.specs.Values.{typed}
-use Rattle.ir_tree.specs.declared.tree.Operation.{Operation}
-use Rattle.ir_tree.specs.declared.tree.Operation.TheVariants as operations
-use Rattle.ir_tree.specs.declared.instructions.OffsetList.{OffsetList}
-use Rattle.ir_tree.specs.Instructions.{offset_turn, offsets, addressing, valued}
+use Rattle.ir_value_trees.specs.declared.value_tree.Typed.{Typed}
+use Rattle.ir_value_trees.specs.Values.{typed}
+use Rattle.ir_instruction_trees.specs.declared.tree.Operation.{Operation}
+use Rattle.ir_instruction_trees.specs.declared.tree.Operation.TheVariants as operations
+use Rattle.ir_instruction_trees.specs.declared.instructions.OffsetList.{OffsetList}
+use Rattle.ir_instruction_trees.specs.Instructions.{offset_turn, offsets, addressing, valued}
 use Rattle.ir_print.specs.Types.{ty_text, memory_text}
 use Rattle.ir_print.specs.Values.{operand_text, typed_text}
 use Rattle.ir_print.specs.Instructions.{offset_text}

@@ -13,18 +13,18 @@ use Rattle.ir_core.specs.declared.program.Init.TheOpen as init
 use Rattle.ir_core.specs.declared.program.Module.{Module}
 use Rattle.ir_core.specs.Layout.{measure}
 use Rattle.ir_grammar.specs.declared.type_tree.TypeNode.{TypeNode}
-use Rattle.ir_grammar.specs.declared.value_tree.Address.{Address}
-use Rattle.ir_grammar.specs.declared.value_tree.InitNode.{InitNode}
-use Rattle.ir_grammar.specs.declared.value_tree.InitNode.TheVariants as nodes
+use Rattle.ir_value_trees.specs.declared.value_tree.Address.{Address}
+use Rattle.ir_value_trees.specs.declared.value_tree.InitNode.{InitNode}
+use Rattle.ir_value_trees.specs.declared.value_tree.InitNode.TheVariants as nodes
 use Rattle.ir_types.specs.declared.fault.Fault.{Fault}
 use Rattle.ir_types.specs.Walk.{◌>>=◌}
 use Rattle.ir_types.specs.Names.{Symbols}
 use Rattle.ir_resolve.specs.Same.{same_type}
 use Rattle.ir_resolve.specs.Inits.{Reading, leaf, closed, typed, elements, fields_of, array_of, struct_of, value_with, value, at_end, init_of, byte_count, bytes_init, where_counted}
 use Rattle.ir_resolve.specs.Inits as read
-use Rattle.ir_print.specs.Names.{quoted_byte}
+use Rattle.ir_print_names.specs.Names.{quoted_byte}
 use Rattle.ir_print.specs.Values.{global_of}
-use Rattle.ir_print.proofs.NamesBack.{bytes_back}
+use Rattle.ir_print_names.proofs.NamesBack.{bytes_back}
 use Rattle.ir_print.proofs.Layers.{out_int, out_array, out_struct}
 use Rattle.ir_print_laws.specs.FormTrees.{IsMemoryTree, IsSignedTree, IsAddressTree}
 use Rattle.ir_print_laws.specs.Inits.{repeated, IsInitTree, number_init, null_init, zero_init, place_init, text_init, array_init, struct_init, packed_init, AreInitTrees, ends_init, next_init}

@@ -22,18 +22,18 @@ use Rattle.ir_core.specs.declared.program.Global.{Global}
 use Rattle.ir_grammar.specs.declared.type_tree.TypeNode.{TypeNode}
 use Rattle.ir_grammar.specs.Words.{is_number}
 use Rattle.ir_grammar.specs.Types.{struct_end, type_form}
-use Rattle.ir_grammar.specs.declared.value_tree.Address.{Address}
-use Rattle.ir_grammar.specs.declared.value_tree.Value.{Value}
-use Rattle.ir_grammar.specs.declared.value_tree.Value.TheVariants as written
-use Rattle.ir_grammar.specs.declared.value_tree.InitNode.{InitNode}
-use Rattle.ir_grammar.specs.declared.value_tree.InitNode.TheVariants as nodes
-use Rattle.ir_grammar.specs.declared.values.OpenInit.{OpenInit}
-use Rattle.ir_grammar.specs.Values.{begins_address, address, operand, word_operand, word_value, word_value_of, token_init_of, token_init, plain_init, list_end, list_start, init_start, init_end, init_turn, init_form}
-use Rattle.ir_print.specs.Names.{quoted_byte, quoted_text}
-use Rattle.ir_print.specs.Numbers.{number_text}
+use Rattle.ir_value_trees.specs.declared.value_tree.Address.{Address}
+use Rattle.ir_value_trees.specs.declared.value_tree.Value.{Value}
+use Rattle.ir_value_trees.specs.declared.value_tree.Value.TheVariants as written
+use Rattle.ir_value_trees.specs.declared.value_tree.InitNode.{InitNode}
+use Rattle.ir_value_trees.specs.declared.value_tree.InitNode.TheVariants as nodes
+use Rattle.ir_value_trees.specs.declared.values.OpenInit.{OpenInit}
+use Rattle.ir_value_trees.specs.Values.{begins_address, address, operand, word_operand, word_value, word_value_of, token_init_of, token_init, plain_init, list_end, list_start, init_start, init_end, init_turn, init_form}
+use Rattle.ir_print_names.specs.Names.{quoted_byte, quoted_text}
+use Rattle.ir_print_names.specs.Numbers.{number_text}
 use Rattle.ir_print.specs.Types.{comma, opening_of, ending_of, memory_text}
 use Rattle.ir_print.specs.Values.{place_text, width_of_memory, list_opening, list_ending, parts_text, part_of, part_text, list_text, init_text}
-use Rattle.ir_print.proofs.NamesBack.{quoted_back}
+use Rattle.ir_print_names.proofs.NamesBack.{quoted_back}
 use Rattle.ir_print.proofs.Layers.{out_int, out_array, out_struct, init_num, init_null, init_zero, init_place, init_bytes, init_list}
 use Rattle.ir_print_laws.specs.FormTrees.{has_sign, IsMemoryTree}
 use Rattle.ir_print_laws.proofs.Joined.{◌▸◌, nest3, nest4, nest5}

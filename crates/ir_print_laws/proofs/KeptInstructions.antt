@@ -3,13 +3,13 @@ use Rattle.std.proofs.Common.{ℕ, List, Bool, Option}
 use Rattle.ir_text.specs.declared.name.Name.{Name}
 use Rattle.ir_text.specs.Form.{Form}
 use Rattle.ir_grammar.specs.declared.type_tree.TypeNode.{TypeNode}
-use Rattle.ir_tree.specs.declared.tree.Incoming.{Incoming}
-use Rattle.ir_tree.specs.declared.tree.Operation.{Operation}
-use Rattle.ir_tree.specs.declared.instructions.IncomingList.{IncomingList}
-use Rattle.ir_tree.specs.declared.instructions.OffsetList.{OffsetList}
-use Rattle.ir_tree.specs.declared.instructions.ArgumentList.{ArgumentList}
-use Rattle.ir_tree.specs.declared.instructions.CaseList.{CaseList}
-use Rattle.ir_tree.specs.Instructions.{binary, comparison, cast, selection, freezing, incoming, incoming_turn, more_incoming, choice, count, allocation, loading, storing, offset_turn, offsets, addressing, separator, argument_turn, argument_list, arguments, tail_word, call_start, call_rest, call, valued, returning, label_of_block, branch, case_form, case_turn, cases, switching, unreachable, effect, finished, assignment, instruction}
+use Rattle.ir_instruction_trees.specs.declared.tree.Incoming.{Incoming}
+use Rattle.ir_instruction_trees.specs.declared.tree.Operation.{Operation}
+use Rattle.ir_instruction_trees.specs.declared.instructions.IncomingList.{IncomingList}
+use Rattle.ir_instruction_trees.specs.declared.instructions.OffsetList.{OffsetList}
+use Rattle.ir_instruction_trees.specs.declared.instructions.ArgumentList.{ArgumentList}
+use Rattle.ir_instruction_trees.specs.declared.instructions.CaseList.{CaseList}
+use Rattle.ir_instruction_trees.specs.Instructions.{binary, comparison, cast, selection, freezing, incoming, incoming_turn, more_incoming, choice, count, allocation, loading, storing, offset_turn, offsets, addressing, separator, argument_turn, argument_list, arguments, tail_word, call_start, call_rest, call, valued, returning, label_of_block, branch, case_form, case_turn, cases, switching, unreachable, effect, finished, assignment, instruction}
 use Rattle.ir_print_laws.proofs.Kept.{IsKept, kept_forms}
 use Rattle.ir_print_laws.proofs.KeptWords.{kept_words, kept-flags_of, kept-type_form, kept-words, kept-attributes, kept-suffixes}
 use Rattle.ir_print_laws.proofs.KeptValues.{kept-operand, kept-typed, kept-argument}

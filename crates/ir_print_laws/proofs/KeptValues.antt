@@ -1,12 +1,12 @@
 -- Behind addresses, operands and initial values of a text of bytes stand bytes.
 use Rattle.std.proofs.Common.{ℕ, List, Bool}
-use Rattle.ir_grammar.specs.declared.value_tree.InitNode.{InitNode}
-use Rattle.ir_grammar.specs.declared.values.AddressWordList.{AddressWordList}
-use Rattle.ir_grammar.specs.declared.values.IndexList.{IndexList}
-use Rattle.ir_grammar.specs.declared.values.HeadList.{HeadList}
-use Rattle.ir_grammar.specs.declared.values.TailList.{TailList}
-use Rattle.ir_grammar.specs.declared.values.OpenInit.{OpenInit}
-use Rattle.ir_grammar.specs.Values.{address_word, address_word_turn, address_words, index_form, index_turn, address_head, head_turn, address_tail, tail_turn, address_heads, address_tails, address, word_operand, operand, typed, argument, token_init, plain_init, list_end, list_start, init_start, init_end, init_turn, init_form}
+use Rattle.ir_value_trees.specs.declared.value_tree.InitNode.{InitNode}
+use Rattle.ir_value_trees.specs.declared.values.AddressWordList.{AddressWordList}
+use Rattle.ir_value_trees.specs.declared.values.IndexList.{IndexList}
+use Rattle.ir_value_trees.specs.declared.values.HeadList.{HeadList}
+use Rattle.ir_value_trees.specs.declared.values.TailList.{TailList}
+use Rattle.ir_value_trees.specs.declared.values.OpenInit.{OpenInit}
+use Rattle.ir_value_trees.specs.Values.{address_word, address_word_turn, address_words, index_form, index_turn, address_head, head_turn, address_tail, tail_turn, address_heads, address_tails, address, word_operand, operand, typed, argument, token_init, plain_init, list_end, list_start, init_start, init_end, init_turn, init_form}
 use Rattle.ir_print_laws.proofs.Kept.{IsKept, kept_forms}
 use Rattle.ir_print_laws.proofs.KeptWords.{kept_words, kept-integer, kept-struct_end, kept-type_form, kept-string_attribute, kept-word_attribute, kept-numbered_attribute, kept-attributes}
 

@@ -11,7 +11,7 @@ use Rattle.jit_calls.specs.Form.{begins, literal, run, repeat, whole}
 use Rattle.jit_calls.specs.Names.{name, function_named}
 use Rattle.jit_calls.specs.Numbers.{some_digits, number}
 use Rattle.jit_calls.specs.Line.{Argument, integer_value, integer, next_argument, with_argument, arguments, turns, call, line_call, resolved, by_form}
-use Rattle.ir_print.proofs.NamesBack.{both_true}
+use Rattle.ir_print_names.proofs.NamesBack.{both_true}
 use Rattle.ir_print_laws.proofs.Tokens.{Begun, decimal_digits, decimal_begun}
 use Rattle.ir_print_laws.specs.Modules.{word, name_of, call_of, function_of}
 use Rattle.ir_print_laws.proofs.Numbers.{decimal_says, digits_read, name_token}

@@ -19,16 +19,16 @@ use Rattle.ir_core.specs.declared.code.Inst.{Inst}
 use Rattle.ir_core.specs.declared.program.Module.{Module}
 use Rattle.ir_core.specs.Units.{has_result}
 use Rattle.ir_grammar.specs.Words.{is_attribute_name, suffixes}
-use Rattle.ir_grammar.specs.Values.{is_local}
-use Rattle.ir_tree.specs.declared.tree.Operation.{Operation}
-use Rattle.ir_tree.specs.declared.tree.Operation.TheVariants as operations
-use Rattle.ir_tree.specs.declared.tree.Instruction.{Instruction}
-use Rattle.ir_tree.specs.Instructions.{binary, cast, comparison, selection, freezing, choice, allocation, loading, is_dropped_name, addressing, valued, storing, returning, branch, switching, unreachable, effect, begins_call, call, finished, assignment, instruction}
-use Rattle.ir_print.specs.Names.{is_bare, name_text}
+use Rattle.ir_value_trees.specs.Values.{is_local}
+use Rattle.ir_instruction_trees.specs.declared.tree.Operation.{Operation}
+use Rattle.ir_instruction_trees.specs.declared.tree.Operation.TheVariants as operations
+use Rattle.ir_instruction_trees.specs.declared.tree.Instruction.{Instruction}
+use Rattle.ir_instruction_trees.specs.Instructions.{binary, cast, comparison, selection, freezing, choice, allocation, loading, is_dropped_name, addressing, valued, storing, returning, branch, switching, unreachable, effect, begins_call, call, finished, assignment, instruction}
+use Rattle.ir_print_names.specs.Names.{is_bare, name_text}
 use Rattle.ir_print.specs.Instructions.{built_in_front, built_in_width, built_in_text, function_of, call_text, op_text, result_text}
 use Rattle.ir_print_laws.specs.FormTrees.{written_of, IsValueName}
 use Rattle.ir_print_laws.specs.Instructions.{IsOperationTree, operation_form}
-use Rattle.ir_print.proofs.NamesBack.{digits_are_names}
+use Rattle.ir_print_names.proofs.NamesBack.{digits_are_names}
 use Rattle.ir_print_laws.proofs.Joined.{nest4}
 use Rattle.ir_print_laws.proofs.Tokens.{token_blank, value_token, decimal_digits}
 use Rattle.ir_print_laws.proofs.Segments.{IsBlind, blind_forms}

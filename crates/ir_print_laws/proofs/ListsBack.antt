@@ -11,12 +11,12 @@ use Rattle.ir_core.specs.declared.code.Operand.{Operand}
 use Rattle.ir_core.specs.declared.program.Global.{Global}
 use Rattle.ir_grammar.specs.declared.type_tree.TypeNode.{TypeNode}
 use Rattle.ir_grammar.specs.Types.{type_form}
-use Rattle.ir_grammar.specs.declared.value_tree.Value.{Value}
-use Rattle.ir_grammar.specs.Values.{operand}
-use Rattle.ir_tree.specs.declared.tree.Incoming.{Incoming}
-use Rattle.ir_tree.specs.declared.tree.Operation.TheVariants as operations
-use Rattle.ir_tree.specs.declared.instructions.IncomingList.{IncomingList}
-use Rattle.ir_tree.specs.Instructions.{incoming, incoming_turn, more_incoming, choice}
+use Rattle.ir_value_trees.specs.declared.value_tree.Value.{Value}
+use Rattle.ir_value_trees.specs.Values.{operand}
+use Rattle.ir_instruction_trees.specs.declared.tree.Incoming.{Incoming}
+use Rattle.ir_instruction_trees.specs.declared.tree.Operation.TheVariants as operations
+use Rattle.ir_instruction_trees.specs.declared.instructions.IncomingList.{IncomingList}
+use Rattle.ir_instruction_trees.specs.Instructions.{incoming, incoming_turn, more_incoming, choice}
 use Rattle.ir_print.specs.Types.{ty_text, listed}
 use Rattle.ir_print.specs.Values.{operand_text}
 use Rattle.ir_print.specs.Instructions.{incoming_text}

@@ -8,8 +8,8 @@ use Rattle.ir_core.specs.declared.code.Operand.{Operand}
 use Rattle.ir_core.specs.declared.code.Op.{Op}
 use Rattle.ir_core.specs.declared.code.Op.TheVariants as ops
 use Rattle.ir_core.specs.declared.program.Module.{Module}
-use Rattle.ir_tree.specs.declared.tree.Operation.{Operation}
-use Rattle.ir_tree.specs.Instructions.{choice, allocation, switching, valued, effect}
+use Rattle.ir_instruction_trees.specs.declared.tree.Operation.{Operation}
+use Rattle.ir_instruction_trees.specs.Instructions.{choice, allocation, switching, valued, effect}
 use Rattle.ir_print.specs.Instructions.{op_text}
 use Rattle.ir_print_laws.specs.Instructions.{HasIncoming, IsLongOperation}
 use Rattle.ir_print_laws.proofs.Tokens.{Ends}

@@ -10,7 +10,7 @@ use Rattle.ir_core.specs.declared.program.Module.{Module}
 use Rattle.ir_meaning.specs.declared.calls.ListedCall.{ListedCall}
 use Rattle.jit_calls.specs.declared.lists.CallsRefusal.{CallsRefusal}
 use Rattle.jit_calls.specs.Lists.{without_return, lines_behind, lines, with_lines, all_lines, few, calls_of}
-use Rattle.ir_print.proofs.NamesBack.{both_true, not_true}
+use Rattle.ir_print_names.proofs.NamesBack.{both_true, not_true}
 use Rattle.ir_print_laws.proofs.Tokens.{decimal_digits}
 use Rattle.jit_text.specs.ManyCallsTexts.{call_text, calls_text}
 use Rattle.ir_print_laws.specs.Modules.{many_module, call_of, calls_before}

@@ -13,13 +13,13 @@ use Rattle.ir_core.specs.declared.program.Module.{Module}
 use Rattle.ir_grammar.specs.declared.type_tree.TypeNode.{TypeNode}
 use Rattle.ir_grammar.specs.Words.{begins_word_item, words, suffixes}
 use Rattle.ir_grammar.specs.Types.{type_form}
-use Rattle.ir_grammar.specs.declared.value_tree.InitNode.{InitNode}
-use Rattle.ir_grammar.specs.Values.{init_form}
+use Rattle.ir_value_trees.specs.declared.value_tree.InitNode.{InitNode}
+use Rattle.ir_value_trees.specs.Values.{init_form}
 use Rattle.ir_tree.specs.declared.tree.Global.{Global as GlobalText}
 use Rattle.ir_tree.specs.declared.tree.Function.{Function as FunctionText}
 use Rattle.ir_tree.specs.declared.tree.Tree.{Tree}
 use Rattle.ir_tree.specs.Modules.{global_word, global_form, function, item_turn, module_form, IsTextOf}
-use Rattle.ir_print.specs.Names.{name_text}
+use Rattle.ir_print_names.specs.Names.{name_text}
 use Rattle.ir_print.specs.Types.{memory_text}
 use Rattle.ir_print.specs.Values.{init_text}
 use Rattle.ir_print.specs.Modules.{function_lines, global_line, module_text}

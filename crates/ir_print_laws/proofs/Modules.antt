@@ -16,7 +16,7 @@ use Rattle.ir_types.specs.Summaries.{AreResolved}
 use Rattle.ir_resolve.specs.declared.globals.GlobalList.{GlobalList}
 use Rattle.ir_resolve.specs.Named.{names_of, bodies_of, IsTypesOf}
 use Rattle.ir_resolve.specs.Globals.{small_aligns, global, global_step, globals_of, global_name, global_names}
-use Rattle.ir_reader.specs.Functions.{function_step, symbol_step, symbols_of, module_with, IsModuleOf}
+use Rattle.ir_functions.specs.Functions.{function_step, symbol_step, symbols_of, module_with, IsModuleOf}
 use Rattle.ir_print.specs.Values.{global_of}
 use Rattle.ir_print.specs.Instructions.{function_of}
 use Rattle.ir_print_laws.specs.FormTrees.{IsNameOf}

@@ -12,8 +12,8 @@ use Rattle.ir_types.specs.declared.tables.Target.{Target}
 use Rattle.ir_types.specs.declared.tables.Target.TheVariants as targets
 use Rattle.ir_types.specs.Tables.{target_named, put_named}
 use Rattle.ir_types.specs.Names.{Symbols, bytes_of, named_target}
-use Rattle.ir_print.specs.Names.{is_bare, name_text}
-use Rattle.ir_print.proofs.NamesBack.{globals_back}
+use Rattle.ir_print_names.specs.Names.{is_bare, name_text}
+use Rattle.ir_print_names.proofs.NamesBack.{globals_back}
 use Rattle.ir_print_laws.specs.FormTrees.{spelling_of, written_of, IsNameOf}
 use Rattle.ir_print_laws.proofs.NamesHere.{global_token}
 use Rattle.ir_print_laws.specs.Fits.{AreBytes, AllNew}

@@ -14,9 +14,9 @@ use Rattle.ir_text.specs.declared.name.Number.{Number}
 use Rattle.ir_text.specs.Token.{global, number, Spelled, is_name_byte, is_no_quote, begins, name_at, quoted, token_at, behind_blanks, global_or_mark}
 use Rattle.ir_text.specs.Form.{left_at}
 use Rattle.ir_text.specs.Words.{global_name, numeral}
-use Rattle.ir_print.specs.Names.{is_bare, is_numeral, hexadecimal_digit, is_plain, quoted_byte, quoted_text, name_text}
-use Rattle.ir_print.proofs.NamesBack.{both_true, not_true, run_front, run_back, no_digit, quoted_back}
-use Rattle.ir_print.proofs.NumbersBack.{negative_token}
+use Rattle.ir_print_names.specs.Names.{is_bare, is_numeral, hexadecimal_digit, is_plain, quoted_byte, quoted_text, name_text}
+use Rattle.ir_print_names.proofs.NamesBack.{both_true, not_true, run_front, run_back, no_digit, quoted_back}
+use Rattle.ir_print_names.proofs.NumbersBack.{negative_token}
 use Rattle.ir_print_laws.specs.FormTrees.{spelling_of, written_of, IsNameOf, has_sign, IsSignedTree}
 use Rattle.ir_print_laws.proofs.Tokens.{Ends, decimal_digits, decimal_some, count_token}
 use Rattle.ir_print_laws.proofs.Marks.{number_here}

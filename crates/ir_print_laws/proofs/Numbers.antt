@@ -9,7 +9,7 @@ use Rattle.ir_text.specs.declared.token.Spelling.TheVariants.{Bare}
 use Rattle.ir_text.specs.Token.{Token, global, is_name_byte, begins as begins_by, token_at, behind_blanks}
 use Rattle.ir_types.specs.Numbers.{digits_onto}
 use Rattle.ir_types.specs.Numbers as numbers
-use Rattle.ir_print.proofs.NamesBack.{both_true, run_front, run_back, digits_are_names}
+use Rattle.ir_print_names.proofs.NamesBack.{both_true, run_front, run_back, digits_are_names}
 use Rattle.ir_print_laws.proofs.Tokens.{Begun, decimal_digits, decimal_begun}
 use Rattle.jit_calls.specs.Form.{Stops, run}
 use Rattle.jit_calls.specs.Numbers.{some_digits, if_some}

@@ -9,10 +9,10 @@ use Rattle.ir_core.specs.declared.code.Operand.{Operand}
 use Rattle.ir_core.specs.declared.code.Operand.TheVariants as operands
 use Rattle.ir_core.specs.declared.program.Module.{Module}
 use Rattle.ir_grammar.specs.declared.type_tree.TypeNode.{TypeNode}
-use Rattle.ir_grammar.specs.declared.value_tree.Address.{Address}
-use Rattle.ir_grammar.specs.declared.value_tree.Value.{Value}
-use Rattle.ir_grammar.specs.declared.value_tree.Value.TheVariants as written
-use Rattle.ir_grammar.specs.declared.value_tree.Typed.{Typed}
+use Rattle.ir_value_trees.specs.declared.value_tree.Address.{Address}
+use Rattle.ir_value_trees.specs.declared.value_tree.Value.{Value}
+use Rattle.ir_value_trees.specs.declared.value_tree.Value.TheVariants as written
+use Rattle.ir_value_trees.specs.declared.value_tree.Typed.{Typed}
 use Rattle.ir_types.specs.declared.tables.Target.TheVariants as targets
 use Rattle.ir_types.specs.Numbers.{natural}
 use Rattle.ir_types.specs.declared.names.Table.{Table}

@@ -1,8 +1,10 @@
 -- Trees of printed operations say what was printed.
-use Rattle.std.proofs.Common.{◌≡◌, ◌⊎◌, inl, inr, ℕ, suc, ◌-◌, ◌^◌, ◌<◌, ◌≤◌, Bool, true, false, List, [], ◌∷◌, ◌++◌, length, take, drop, slice_get, Option, Some, None, refl, sym, ◌∙◌, ap, subst, append_assoc, append-nil, arith}
-use Rattle.std.specs.Prelude.{◌==◌, nat_eq, nat_le, nat_lt, codes, decimal, Result, Ok, if◌then◌else◌}
+use Rattle.std.proofs.Common.{◌≡◌, ◌⊎◌, inl, inr, ℕ, suc, ◌+◌, ◌-◌, ◌/◌, ◌%◌, ◌^◌, ◌<◌, ◌≤◌, Bool, true, false, List, [], ◌∷◌, ◌++◌, length, take, drop, slice_get, Option, Some, None, refl, sym, ◌∙◌, ap, subst, append_assoc, append-nil, arith}
+use Rattle.std.specs.Prelude.{◌==◌, not, ◌&&◌, nat_eq, nat_le, nat_lt, codes, decimal, Result, Ok, if◌then◌else◌}
 use Rattle.std.specs.Str.{bytes_eq}
-use Rattle.std.specs.List.{starts_with}
+use Rattle.std.specs.List.{starts_with, list_all}
+use Rattle.std.specs.Char.{is_ascii_digit}
+use Rattle.std.proofs.lemmas.Fmt.{decimal_by_steps_wide}
 use Rattle.std.specs.Fmt.{digits}
 use Rattle.ir_text.specs.declared.name.Name.{Name}
 use Rattle.ir_core.specs.declared.types.TheConstants.{MAX_WIDTH}
@@ -21,12 +23,12 @@ use Rattle.ir_core.specs.declared.code.Op.{Op}
 use Rattle.ir_core.specs.declared.code.Op.TheVariants as ops
 use Rattle.ir_core.specs.declared.program.Module.{Module}
 use Rattle.ir_grammar.specs.declared.type_tree.TypeNode.{TypeNode}
-use Rattle.ir_grammar.specs.declared.value_tree.Value.{Value}
-use Rattle.ir_grammar.specs.declared.value_tree.Typed.{Typed}
-use Rattle.ir_tree.specs.declared.tree.Incoming.{Incoming}
-use Rattle.ir_tree.specs.declared.tree.Case.{Case}
-use Rattle.ir_tree.specs.declared.tree.Operation.{Operation}
-use Rattle.ir_tree.specs.declared.tree.Operation.TheVariants as operations
+use Rattle.ir_value_trees.specs.declared.value_tree.Value.{Value}
+use Rattle.ir_value_trees.specs.declared.value_tree.Typed.{Typed}
+use Rattle.ir_instruction_trees.specs.declared.tree.Incoming.{Incoming}
+use Rattle.ir_instruction_trees.specs.declared.tree.Case.{Case}
+use Rattle.ir_instruction_trees.specs.declared.tree.Operation.{Operation}
+use Rattle.ir_instruction_trees.specs.declared.tree.Operation.TheVariants as operations
 use Rattle.ir_types.specs.declared.fault.Fault.{Fault}
 use Rattle.ir_types.specs.Walk.{walk}
 use Rattle.ir_types.specs.Numbers.{digits_onto}
@@ -39,11 +41,11 @@ use Rattle.ir_instructions.specs.declared.built_ins.NamedBuiltIn.{NamedBuiltIn}
 use Rattle.ir_instructions.specs.declared.lists.TypedList.{TypedList}
 use Rattle.ir_instructions.specs.declared.lists.IncomingList.{IncomingList}
 use Rattle.ir_instructions.specs.declared.lists.CaseList.{CaseList}
-use Rattle.ir_instructions.specs.BuiltIns.{width_of_digits, width_behind, memory_named, integer_named, built_in_of, is_of_memory, measured, has_width, quiet_value, quiet_argument, quiet}
+use Rattle.ir_instructions.specs.BuiltIns.{are_plain_digits, width_of_digits, width_behind, memory_named, integer_named, built_in_of, is_of_memory, measured, has_width, quiet_value, quiet_argument, quiet}
 use Rattle.ir_instructions.specs.Counts.{small_aligns, item_count}
 use Rattle.ir_instructions.specs.Instructions.{result_type, typed_step, typed_list, incoming_step, incoming_list, case_value, case_step, case_list, binary, comparison, cast, selection, freezing, phi, loading, storing, direct_call, built_in_call, named_call, call, returning, ret, fork, switching, alloca, gep, operation}
 use Rattle.ir_core.specs.Units.{parts_in}
-use Rattle.ir_reader.specs.Functions.{parts_of}
+use Rattle.ir_functions.specs.Functions.{parts_of}
 use Rattle.ir_print.specs.Instructions.{width_of_length, width_of_value, built_in_front, built_in_width, built_in_text, function_of}
 use Rattle.ir_print_laws.specs.FormTrees.{IsNameOf, IsBlockName, IsTyTree, IsMemoryTree, IsOperandTree, IsTypedTree}
 use Rattle.ir_print_laws.specs.Instructions.{AreTrees, IsIncomingTree, IsArgumentTree, IsCaseTree, IsCountTree, IsOperationTree}
@@ -82,10 +84,34 @@ behind_other front name e = by (nat_lt (length name) (length front))
     by true = refl
     by false = rw e refl
 
+has_front : List ℕ → Bool
+has_front [] = false
+has_front (d ∷ ds) = not (nat_eq d 48)
+
+front_more : (ds : List ℕ) (x : ℕ) → has_front ds ≡ true → has_front (ds ++ x ∷ []) ≡ true
+front_more [] x e = absurd cc
+front_more (d ∷ ds) x e = e
+
+one_front : (k : ℕ) → 1 ≤ k → has_front ((48 + k) ∷ []) ≡ true
+one_front k least = let e : nat_eq (48 + k) 48 ≡ false = grind (arith, least) in ap not e
+
+-- printed digits begin by 0 where they say 0 alone
+decimal_front : (n : ℕ) → n < 10 ^ 64 → 1 ≤ n → has_front (decimal n) ≡ true
+decimal_front n lt = decimal_by_steps_wide (λ k ds. 1 ≤ k → has_front ds ≡ true) (λ k small least. one_front k least)
+    (λ k ds ten before least. front_more ds (48 + k % 10) (before (omega (arith, ten)))) n lt
+
+pub and_true : (a b : Bool) → a ≡ true → b ≡ true → (a && b) ≡ true
+and_true true b x y = y
+and_true false b x y = absurd cc
+
+plain_by : (ds : List ℕ) → has_front ds ≡ true → list_all is_ascii_digit ds ≡ true → are_plain_digits ds ≡ true
+plain_by [] e all = absurd cc
+plain_by (d ∷ ds) e all = and_true (not (nat_eq d 48)) (list_all is_ascii_digit (d ∷ ds)) e all
+
 digits_say : (w : ℕ) → 1 ≤ w → w ≤ MAX_WIDTH → width_of_digits (decimal w) ≡ Some w
 unfolding width_of_digits
 digits_say w least most =
-    let all = decimal_digits w in
+    let all = plain_by (decimal w) (decimal_front w (omega (arith, most)) least) (decimal_digits w) in
     let n = natural_says w (omega (arith, most)) in
     let a : nat_le 1 w ≡ true = grind (arith, least) in
     let b : nat_le w MAX_WIDTH ≡ true = grind (arith, most) in

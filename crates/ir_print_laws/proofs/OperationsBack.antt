@@ -17,11 +17,11 @@ use Rattle.ir_core.specs.declared.program.Global.{Global}
 use Rattle.ir_grammar.specs.declared.type_tree.TypeNode.{TypeNode}
 use Rattle.ir_grammar.specs.Operators.{samesign_flag, flags_of, binary_of, cast_of, predicate_of, binary_name, cast_name}
 use Rattle.ir_grammar.specs.Types.{type_form}
-use Rattle.ir_grammar.specs.declared.value_tree.Value.{Value}
-use Rattle.ir_grammar.specs.declared.value_tree.Typed.{Typed}
-use Rattle.ir_grammar.specs.Values.{operand, typed}
-use Rattle.ir_tree.specs.declared.tree.Operation.TheVariants as operations
-use Rattle.ir_tree.specs.Instructions.{binary, comparison, cast, selection, freezing, loading, storing, returning, branch, label_of_block}
+use Rattle.ir_value_trees.specs.declared.value_tree.Value.{Value}
+use Rattle.ir_value_trees.specs.declared.value_tree.Typed.{Typed}
+use Rattle.ir_value_trees.specs.Values.{operand, typed}
+use Rattle.ir_instruction_trees.specs.declared.tree.Operation.TheVariants as operations
+use Rattle.ir_instruction_trees.specs.Instructions.{binary, comparison, cast, selection, freezing, loading, storing, returning, branch, label_of_block}
 use Rattle.ir_print.specs.Types.{ty_text}
 use Rattle.ir_print.specs.Values.{operand_text, typed_text}
 use Rattle.ir_print.specs.Instructions.{flags_text, binary_word, cast_word, predicate_word, block_text}

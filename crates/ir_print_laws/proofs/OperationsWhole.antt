@@ -13,9 +13,9 @@ use Rattle.ir_core.specs.declared.code.Op.{Op}
 use Rattle.ir_core.specs.declared.code.Op.TheVariants as ops
 use Rattle.ir_core.specs.declared.program.Module.{Module}
 use Rattle.ir_grammar.specs.declared.type_tree.TypeNode.{TypeNode}
-use Rattle.ir_tree.specs.declared.tree.Operation.{Operation}
-use Rattle.ir_tree.specs.declared.tree.Operation.TheVariants as operations
-use Rattle.ir_tree.specs.Instructions.{binary, comparison, cast, selection, freezing, loading, storing, returning, branch, unreachable, valued, effect}
+use Rattle.ir_instruction_trees.specs.declared.tree.Operation.{Operation}
+use Rattle.ir_instruction_trees.specs.declared.tree.Operation.TheVariants as operations
+use Rattle.ir_instruction_trees.specs.Instructions.{binary, comparison, cast, selection, freezing, loading, storing, returning, branch, unreachable, valued, effect}
 use Rattle.ir_print.specs.Instructions.{binary_word, cast_word, op_text}
 use Rattle.ir_print_laws.specs.Instructions.{IsOperationTree, IsPlainReturn, IsPlainOperation, operation_form}
 use Rattle.ir_print_laws.proofs.Tokens.{Ends, run_token}

@@ -3,9 +3,9 @@ use Rattle.std.proofs.Common.{◌≡◌, ◌⊎◌, inl, inr, ℕ, zero, suc, �
 use Rattle.std.specs.Prelude.{nat_le, nat_eq, sum_by}
 use Rattle.std.proofs.lemmas.List.Sums.{sum_by-cons}
 use Rattle.ir_text.specs.declared.name.Name.{Name}
-use Rattle.ir_tree.specs.declared.tree.Operation.{Operation}
-use Rattle.ir_tree.specs.declared.tree.Operation.TheVariants as operations
-use Rattle.ir_tree.specs.declared.tree.Instruction.{Instruction}
+use Rattle.ir_instruction_trees.specs.declared.tree.Operation.{Operation}
+use Rattle.ir_instruction_trees.specs.declared.tree.Operation.TheVariants as operations
+use Rattle.ir_instruction_trees.specs.declared.tree.Instruction.{Instruction}
 use Rattle.ir_tree.specs.declared.tree.Block.{Block as BlockText}
 use Rattle.ir_tree.specs.declared.tree.Function.{Function as FunctionText}
 use Rattle.ir_core.specs.declared.types.Ty.{Ty}
@@ -29,13 +29,13 @@ use Rattle.ir_types.specs.Summaries.{AreResolved}
 use Rattle.ir_types.specs.Types.{type_of}
 use Rattle.ir_resolve.specs.Operands.{is_ty}
 use Rattle.ir_instructions.specs.Instructions.{result_type, operation}
-use Rattle.ir_reader.specs.declared.locals.Numbering.{Numbering}
-use Rattle.ir_reader.specs.declared.locals.ParamList.{ParamList}
-use Rattle.ir_reader.specs.declared.locals.BodyNames.{BodyNames}
-use Rattle.ir_reader.specs.declared.units.UnitCount.{UnitCount}
-use Rattle.ir_reader.specs.declared.functions.InstList.{InstList}
-use Rattle.ir_reader.specs.declared.functions.BlockList.{BlockList}
-use Rattle.ir_reader.specs.Functions.{name_local, parameter_step, no_result, some_result, result_step, label, label_step, inst_step, block_step, within, body_names, parameters, body, parts_of, unit_step, block_units_step, units_of, function}
+use Rattle.ir_functions.specs.declared.locals.Numbering.{Numbering}
+use Rattle.ir_functions.specs.declared.locals.ParamList.{ParamList}
+use Rattle.ir_functions.specs.declared.locals.BodyNames.{BodyNames}
+use Rattle.ir_functions.specs.declared.units.UnitCount.{UnitCount}
+use Rattle.ir_functions.specs.declared.functions.InstList.{InstList}
+use Rattle.ir_functions.specs.declared.functions.BlockList.{BlockList}
+use Rattle.ir_functions.specs.Functions.{name_local, parameter_step, no_result, some_result, result_step, label, label_step, inst_step, block_step, within, body_names, parameters, body, parts_of, unit_step, block_units_step, units_of, function}
 use Rattle.ir_print_laws.specs.Instructions.{AreTrees}
 use Rattle.ir_print_laws.specs.Written.{Each}
 use Rattle.ir_print_laws.specs.Fits.{Counts, FitsTy, IsNoVoid, FitsInstruction, FitsBlocks, parts_and_one, block_parts, results_in, counts_of, FitsParameter, FitsFunction}

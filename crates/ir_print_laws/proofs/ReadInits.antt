@@ -6,9 +6,9 @@ use Rattle.ir_text.specs.declared.name.Name.{Name}
 use Rattle.ir_text.specs.declared.name.Number.{Number}
 use Rattle.ir_text.specs.Quoted.{unquoted}
 use Rattle.ir_grammar.specs.declared.type_tree.TypeNode.{TypeNode}
-use Rattle.ir_grammar.specs.declared.value_tree.Address.{Address}
-use Rattle.ir_grammar.specs.declared.value_tree.InitNode.{InitNode}
-use Rattle.ir_grammar.specs.declared.value_tree.InitNode.TheVariants as nodes
+use Rattle.ir_value_trees.specs.declared.value_tree.Address.{Address}
+use Rattle.ir_value_trees.specs.declared.value_tree.InitNode.{InitNode}
+use Rattle.ir_value_trees.specs.declared.value_tree.InitNode.TheVariants as nodes
 use Rattle.ir_core.specs.declared.types.MemTy.{MemTy, out-MemTy}
 use Rattle.ir_core.specs.declared.types.MemTy.TheOpen as layer
 use Rattle.ir_core.specs.declared.program.Init.{Init}
@@ -24,19 +24,18 @@ use Rattle.ir_types.specs.Types.{memory}
 use Rattle.ir_resolve.specs.Literals.{literal_of}
 use Rattle.ir_resolve.specs.Addresses.{address}
 use Rattle.ir_resolve.specs.Same.{same_bool, same_type}
-use Rattle.ir_resolve.specs.Inits.{Reading, first_place, place_of, number_of, byte_count, where_counted, bytes_init, leaf, closed, typed, elements, fields_of, array_of, struct_of, value_with, value, at_end, init_of}
+use Rattle.ir_resolve.specs.Operands.{place_of_type}
+use Rattle.ir_resolve.specs.Inits.{Reading, place_of, number_of, byte_count, where_counted, bytes_init, leaf, closed, typed, elements, fields_of, array_of, struct_of, value_with, value, at_end, init_of}
 use Rattle.ir_resolve.specs.Inits as read
 use Rattle.ir_print_laws.specs.Written.{Each}
 use Rattle.ir_print_laws.specs.Fits.{fits_number, is_pointer, is_byte, has_bytes, fit_each, fit_items, init_fits}
 use Rattle.ir_print_laws.proofs.Inits.{fits_by}
+use Rattle.ir_print_laws.proofs.Operations.{and_true}
 use Rattle.ir_print_laws.proofs.ReadTokens.{Bytes, is_byte as below_256, all_bytes}
 use Rattle.ir_print_laws.proofs.Quoted.{unquoted_bytes}
 use Rattle.ir_print_laws.proofs.TreeModules.{NodeBytes}
 use Rattle.ir_print_laws.proofs.Inverting.{bind, same_ok, same_some, or_ok, known}
 use Rattle.ir_print_laws.proofs.Typed.{number_below, address_well}
-
-and_true : (a b : Bool) → a ≡ true → b ≡ true → (a && b) ≡ true
-and_true a b p q = rw (p, q) refl
 
 pointer_same : (y : layer.MemTy-F MemTy) → read.is_pointer y ≡ is_pointer y
 pointer_same (layer.Int w) = refl
@@ -142,8 +141,8 @@ module _ (types : Types) (symbols : Symbols) (globals : ℕ) (there : (name : Na
   typed_fit : (inner : MemTy → Reading) → FitReading inner → FitReading (typed types inner)
   typed_fit inner fit ty [] got all e = absurd cc
   typed_fit inner fit ty (nodes.Of given ∷ rest) got all e =
-      let a = bind (memory types given) (λ written. if same_type 4096 written ty then inner ty rest else Err (faults.Syntax (first_place rest))) got e in
-      let b = if_true (same_type 4096 a.0 ty) (inner ty rest) (faults.Syntax (first_place rest)) got a.2 in
+      let a = bind (memory types given) (λ written. if same_type 4096 written ty then inner ty rest else Err (faults.Syntax (place_of_type given))) got e in
+      let b = if_true (same_type 4096 a.0 ty) (inner ty rest) (faults.Syntax (place_of_type given)) got a.2 in
       fit ty rest got all.1 b.1
   typed_fit inner fit ty (nodes.Number number ∷ rest) got all e = absurd cc
   typed_fit inner fit ty (nodes.Null left ∷ rest) got all e = absurd cc

@@ -30,8 +30,8 @@ use Rattle.ir_resolve.specs.declared.named.BodyList.{BodyList}
 use Rattle.ir_resolve.specs.declared.globals.GlobalList.{GlobalList}
 use Rattle.ir_resolve.specs.Named.{body_of, body_step, bodies_of, IsTypesOf}
 use Rattle.ir_resolve.specs.Globals.{small_aligns, global, global_step, few_globals, globals_of}
-use Rattle.ir_reader.specs.declared.functions.FunctionList.{FunctionList}
-use Rattle.ir_reader.specs.Functions.{function, function_step, symbols_of, few_functions, module_with, IsModuleOf}
+use Rattle.ir_functions.specs.declared.functions.FunctionList.{FunctionList}
+use Rattle.ir_functions.specs.Functions.{function, function_step, symbols_of, few_functions, module_with, IsModuleOf}
 use Rattle.ir_print.specs.Instructions.{function_of}
 use Rattle.ir_print_laws.specs.Instructions.{AreTrees}
 use Rattle.ir_print_laws.specs.Written.{Each}

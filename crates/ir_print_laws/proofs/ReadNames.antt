@@ -18,9 +18,9 @@ use Rattle.ir_types.specs.declared.table.Types.{Types}
 use Rattle.ir_types.specs.Names.{is_numbered, bytes_of, number_of, numbered_target, named_target, target_of, if_new}
 use Rattle.ir_types.specs.Types.{type_of}
 use Rattle.ir_resolve.specs.Operands.{is_ty, place_of_type}
-use Rattle.ir_reader.specs.declared.locals.Numbering.{Numbering}
-use Rattle.ir_reader.specs.declared.locals.ParamList.{ParamList}
-use Rattle.ir_reader.specs.Functions.{behind_number, number_local, bytes_local, name_local, parameter_type, parameter_step}
+use Rattle.ir_functions.specs.declared.locals.Numbering.{Numbering}
+use Rattle.ir_functions.specs.declared.locals.ParamList.{ParamList}
+use Rattle.ir_functions.specs.Functions.{behind_number, number_local, bytes_local, name_local, parameter_type, parameter_step}
 use Rattle.ir_print_laws.specs.Written.{Each}
 use Rattle.ir_print_laws.specs.Fits.{FitsTy, IsNoVoid, FitsParameter}
 use Rattle.ir_print_laws.proofs.TreeWords.{each_last, length_last}

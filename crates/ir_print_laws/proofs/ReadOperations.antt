@@ -8,13 +8,13 @@ use Rattle.ir_text.specs.declared.name.Name.{Name}
 use Rattle.ir_text.specs.declared.name.Number.{Number}
 use Rattle.ir_grammar.specs.declared.type_tree.TypeNode.{TypeNode}
 use Rattle.ir_grammar.specs.declared.type_tree.Align.{Align}
-use Rattle.ir_grammar.specs.declared.value_tree.Value.{Value}
-use Rattle.ir_grammar.specs.declared.value_tree.Value.TheVariants as written
-use Rattle.ir_grammar.specs.declared.value_tree.Typed.{Typed}
-use Rattle.ir_tree.specs.declared.tree.Incoming.{Incoming}
-use Rattle.ir_tree.specs.declared.tree.Case.{Case}
-use Rattle.ir_tree.specs.declared.tree.Operation.{Operation}
-use Rattle.ir_tree.specs.declared.tree.Operation.TheVariants as operations
+use Rattle.ir_value_trees.specs.declared.value_tree.Value.{Value}
+use Rattle.ir_value_trees.specs.declared.value_tree.Value.TheVariants as written
+use Rattle.ir_value_trees.specs.declared.value_tree.Typed.{Typed}
+use Rattle.ir_instruction_trees.specs.declared.tree.Incoming.{Incoming}
+use Rattle.ir_instruction_trees.specs.declared.tree.Case.{Case}
+use Rattle.ir_instruction_trees.specs.declared.tree.Operation.{Operation}
+use Rattle.ir_instruction_trees.specs.declared.tree.Operation.TheVariants as operations
 use Rattle.ir_core.specs.declared.types.TheConstants.{MAX_WIDTH}
 use Rattle.ir_core.specs.declared.types.Ty.{Ty}
 use Rattle.ir_core.specs.declared.types.Ty.TheVariants as values
@@ -51,7 +51,7 @@ use Rattle.ir_instructions.specs.BuiltIns.{width_behind, with_width, or_named, m
 use Rattle.ir_instructions.specs.Counts.{below_size, number_count, value_count, item_count, small_aligns}
 use Rattle.ir_instructions.specs.Instructions.{result_type, typed_step, typed_list, incoming_step, incoming_list, case_number, case_value, case_step, case_list, binary, comparison, cast, selection, freezing, phi, loading, storing, callee_number, symbol_of, direct_call, built_in_call, own_call, named_call, call, returned_type, returning, ret, jump, fork, switching, in_entry, alloca, gep, operation}
 use Rattle.ir_core.specs.Units.{parts_in}
-use Rattle.ir_reader.specs.Functions.{parts_of}
+use Rattle.ir_functions.specs.Functions.{parts_of}
 use Rattle.ir_print.specs.Instructions.{function_of}
 use Rattle.ir_print_laws.specs.Instructions.{AreTrees}
 use Rattle.ir_print_laws.specs.Written.{Each, IsOffset}

@@ -10,14 +10,14 @@ use Rattle.ir_core.specs.declared.types.Ty.{Ty}
 use Rattle.ir_core.specs.declared.code.Operand.{Operand}
 use Rattle.ir_core.specs.declared.code.Operand.TheVariants as operands
 use Rattle.ir_core.specs.declared.program.Global.{Global}
-use Rattle.ir_grammar.specs.declared.value_tree.Typed.{Typed}
-use Rattle.ir_grammar.specs.Values.{typed}
-use Rattle.ir_tree.specs.declared.tree.Case.{Case}
-use Rattle.ir_tree.specs.declared.tree.Operation.TheVariants as operations
-use Rattle.ir_tree.specs.declared.instructions.CaseList.{CaseList}
-use Rattle.ir_tree.specs.Instructions.{case_form, case_turn, cases, switching, label_of_block}
+use Rattle.ir_value_trees.specs.declared.value_tree.Typed.{Typed}
+use Rattle.ir_value_trees.specs.Values.{typed}
+use Rattle.ir_instruction_trees.specs.declared.tree.Case.{Case}
+use Rattle.ir_instruction_trees.specs.declared.tree.Operation.TheVariants as operations
+use Rattle.ir_instruction_trees.specs.declared.instructions.CaseList.{CaseList}
+use Rattle.ir_instruction_trees.specs.Instructions.{case_form, case_turn, cases, switching, label_of_block}
 use Rattle.ir_print.specs.Types.{ty_text}
-use Rattle.ir_print.specs.Numbers.{number_text}
+use Rattle.ir_print_names.specs.Numbers.{number_text}
 use Rattle.ir_print.specs.Values.{width_of, typed_text}
 use Rattle.ir_print.specs.Instructions.{block_text, case_text}
 use Rattle.ir_print_laws.specs.FormTrees.{IsBlockName, IsTypedTree}

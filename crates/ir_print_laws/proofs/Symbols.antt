@@ -18,8 +18,8 @@ use Rattle.ir_instructions.specs.declared.built_ins.NamedBuiltIn.{NamedBuiltIn}
 use Rattle.ir_instructions.specs.BuiltIns.{built_in_of}
 use Rattle.ir_resolve.specs.declared.globals.GlobalNames.{GlobalNames}
 use Rattle.ir_resolve.specs.Globals.{global_name, global_names}
-use Rattle.ir_reader.specs.declared.functions.SymbolList.{SymbolList}
-use Rattle.ir_reader.specs.Functions.{no_built_in, symbol_step, symbols_of}
+use Rattle.ir_functions.specs.declared.functions.SymbolList.{SymbolList}
+use Rattle.ir_functions.specs.Functions.{no_built_in, symbol_step, symbols_of}
 use Rattle.ir_print_laws.specs.Instructions.{AreTrees}
 use Rattle.ir_print_laws.specs.Written.{Each}
 use Rattle.ir_print_laws.specs.Fits.{AllNew, global_entries, function_entries, HasOwnName}

@@ -7,8 +7,8 @@ use Rattle.std.specs.Fmt.{digits, digits_onto, digit_glyph}
 use Rattle.ir_text.specs.declared.token.Spelling.TheVariants.{Bare}
 use Rattle.ir_text.specs.Token.{Token, word, local, label, number, Spelled, is_blank, is_name_byte, begins, begins_with, back, behind_blanks, labelled, bare_run, word_token, token_here, token_at}
 use Rattle.ir_text.specs.Form.{left_at}
-use Rattle.ir_print.proofs.NamesBack.{both_true, run_front, run_back, digits_are_names, values_back}
-use Rattle.ir_print.proofs.NumbersBack.{digits_token}
+use Rattle.ir_print_names.proofs.NamesBack.{both_true, run_front, run_back, digits_are_names, values_back}
+use Rattle.ir_print_names.proofs.NumbersBack.{digits_token}
 
 -- ---- digits
 

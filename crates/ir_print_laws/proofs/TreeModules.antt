@@ -19,24 +19,24 @@ use Rattle.ir_grammar.specs.declared.types.OpenType.{OpenType}
 use Rattle.ir_grammar.specs.Operators.{no_flags, samesign_flag, with_flag, flag_of, flag_turn, flags_of, binary_name, binary_of, cast_name, cast_of, predicate_of}
 use Rattle.ir_grammar.specs.Words.{is_int_name, is_number}
 use Rattle.ir_grammar.specs.Types.{scalar_of, scalar, is_int, completed, more, type_start, type_turn, type_form}
-use Rattle.ir_grammar.specs.declared.value_tree.Typed.{Typed}
-use Rattle.ir_grammar.specs.declared.value_tree.InitNode.{InitNode}
-use Rattle.ir_grammar.specs.declared.value_tree.InitNode.TheVariants as inits
-use Rattle.ir_grammar.specs.declared.values.OpenInit.{OpenInit}
-use Rattle.ir_grammar.specs.Values.{address, begins_address, is_local, typed, token_init_of, word_init, token_init, plain_init, whole, closing, wanted_by, list_end, list_start, init_start, init_end, init_turn, init_form}
-use Rattle.ir_tree.specs.declared.tree.Incoming.{Incoming}
-use Rattle.ir_tree.specs.declared.tree.Operation.{Operation}
-use Rattle.ir_tree.specs.declared.tree.Operation.TheVariants as operations
-use Rattle.ir_tree.specs.declared.tree.Instruction.{Instruction}
+use Rattle.ir_value_trees.specs.declared.value_tree.Typed.{Typed}
+use Rattle.ir_value_trees.specs.declared.value_tree.InitNode.{InitNode}
+use Rattle.ir_value_trees.specs.declared.value_tree.InitNode.TheVariants as inits
+use Rattle.ir_value_trees.specs.declared.values.OpenInit.{OpenInit}
+use Rattle.ir_value_trees.specs.Values.{address, begins_address, is_local, typed, token_init_of, word_init, token_init, plain_init, whole, closing, wanted_by, list_end, list_start, init_start, init_end, init_turn, init_form}
+use Rattle.ir_instruction_trees.specs.declared.tree.Incoming.{Incoming}
+use Rattle.ir_instruction_trees.specs.declared.tree.Operation.{Operation}
+use Rattle.ir_instruction_trees.specs.declared.tree.Operation.TheVariants as operations
+use Rattle.ir_instruction_trees.specs.declared.tree.Instruction.{Instruction}
 use Rattle.ir_tree.specs.declared.tree.Block.{Block}
 use Rattle.ir_tree.specs.declared.tree.Function.{Function}
 use Rattle.ir_tree.specs.declared.tree.Global.{Global}
 use Rattle.ir_tree.specs.declared.tree.Tree.{Tree}
-use Rattle.ir_tree.specs.declared.instructions.IncomingList.{IncomingList}
-use Rattle.ir_tree.specs.declared.instructions.OffsetList.{OffsetList}
+use Rattle.ir_instruction_trees.specs.declared.instructions.IncomingList.{IncomingList}
+use Rattle.ir_instruction_trees.specs.declared.instructions.OffsetList.{OffsetList}
 use Rattle.ir_tree.specs.declared.modules.InstructionList.{InstructionList}
 use Rattle.ir_tree.specs.declared.modules.BlockList.{BlockList}
-use Rattle.ir_tree.specs.Instructions.{binary, comparison, cast, selection, freezing, incoming_turn, more_incoming, choice, allocation, loading, storing, is_comma_before, offset_turn, offsets, addressing, call_rest, call, valued, returning, branch, switching, unreachable, effect, finished, assignment, instruction}
+use Rattle.ir_instruction_trees.specs.Instructions.{binary, comparison, cast, selection, freezing, incoming_turn, more_incoming, choice, allocation, loading, storing, is_comma_before, offset_turn, offsets, addressing, call_rest, call, valued, returning, branch, switching, unreachable, effect, finished, assignment, instruction}
 use Rattle.ir_tree.specs.Modules.{ends_block, debug_record, with_instruction, instruction_turn, instructions, block, block_turn, block_list, body, function, global_form, named_type, source_filename, target, is_dropped_item, is_end, is_global, item_turn, module_form, IsTextOf}
 use Rattle.ir_print_laws.specs.Operators.{allowed_of, allowed_of_cast, masked}
 use Rattle.ir_print_laws.specs.Written.{Each}

@@ -6,10 +6,10 @@ use Rattle.ir_text.specs.declared.name.Name.{Name}
 use Rattle.ir_text.specs.declared.name.Number.{Number}
 use Rattle.ir_grammar.specs.declared.type_tree.TypeNode.{TypeNode}
 use Rattle.ir_grammar.specs.declared.type_tree.TypeNode.TheVariants as nodes
-use Rattle.ir_grammar.specs.declared.value_tree.Value.{Value}
-use Rattle.ir_grammar.specs.declared.value_tree.Value.TheVariants as written
-use Rattle.ir_grammar.specs.declared.value_tree.Index.{Index}
-use Rattle.ir_grammar.specs.declared.value_tree.Address.{Address}
+use Rattle.ir_value_trees.specs.declared.value_tree.Value.{Value}
+use Rattle.ir_value_trees.specs.declared.value_tree.Value.TheVariants as written
+use Rattle.ir_value_trees.specs.declared.value_tree.Index.{Index}
+use Rattle.ir_value_trees.specs.declared.value_tree.Address.{Address}
 use Rattle.ir_core.specs.declared.types.TheConstants.{MAX_WIDTH}
 use Rattle.ir_core.specs.declared.types.Ty.{Ty}
 use Rattle.ir_core.specs.declared.types.Ty.TheVariants as values

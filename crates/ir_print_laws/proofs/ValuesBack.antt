@@ -17,16 +17,16 @@ use Rattle.ir_core.specs.declared.code.Operand.TheVariants as operands
 use Rattle.ir_core.specs.declared.program.Global.{Global}
 use Rattle.ir_grammar.specs.declared.type_tree.TypeNode.{TypeNode}
 use Rattle.ir_grammar.specs.Types.{type_form}
-use Rattle.ir_grammar.specs.declared.value_tree.Address.{Address}
-use Rattle.ir_grammar.specs.declared.value_tree.Value.{Value}
-use Rattle.ir_grammar.specs.declared.value_tree.Value.TheVariants as written
-use Rattle.ir_grammar.specs.declared.value_tree.Typed.{Typed}
-use Rattle.ir_grammar.specs.declared.values.HeadList.{HeadList}
-use Rattle.ir_grammar.specs.declared.values.TailList.{TailList}
-use Rattle.ir_grammar.specs.Values.{word_value_of, word_operand, head_turn, tail_turn, address_heads, address_tails, address, operand, typed}
-use Rattle.ir_print.specs.Names.{name_text}
+use Rattle.ir_value_trees.specs.declared.value_tree.Address.{Address}
+use Rattle.ir_value_trees.specs.declared.value_tree.Value.{Value}
+use Rattle.ir_value_trees.specs.declared.value_tree.Value.TheVariants as written
+use Rattle.ir_value_trees.specs.declared.value_tree.Typed.{Typed}
+use Rattle.ir_value_trees.specs.declared.values.HeadList.{HeadList}
+use Rattle.ir_value_trees.specs.declared.values.TailList.{TailList}
+use Rattle.ir_value_trees.specs.Values.{word_value_of, word_operand, head_turn, tail_turn, address_heads, address_tails, address, operand, typed}
+use Rattle.ir_print_names.specs.Names.{name_text}
 use Rattle.ir_print.specs.Types.{ty_text}
-use Rattle.ir_print.specs.Numbers.{number_text}
+use Rattle.ir_print_names.specs.Numbers.{number_text}
 use Rattle.ir_print.specs.Values.{width_of, global_of, global_text, place_text, operand_text, typed_text}
 use Rattle.ir_print_laws.specs.FormTrees.{IsValueName, IsNumberTree, IsAddressTree, IsOperandTree, IsTypedTree, has_sign}
 use Rattle.ir_print_laws.proofs.Joined.{nest3, nest5}

@@ -9,12 +9,12 @@ use Rattle.ir_core.specs.declared.program.Global.{Global}
 use Rattle.ir_core.specs.Layout.{measure}
 use Rattle.ir_grammar.specs.declared.type_tree.TypeNode.{TypeNode}
 use Rattle.ir_grammar.specs.Types.{type_form}
-use Rattle.ir_grammar.specs.declared.value_tree.Value.{Value}
-use Rattle.ir_grammar.specs.declared.value_tree.Typed.{Typed}
-use Rattle.ir_grammar.specs.Values.{operand, typed}
+use Rattle.ir_value_trees.specs.declared.value_tree.Value.{Value}
+use Rattle.ir_value_trees.specs.declared.value_tree.Typed.{Typed}
+use Rattle.ir_value_trees.specs.Values.{operand, typed}
 use Rattle.ir_core.specs.declared.code.Op.{Op}
 use Rattle.ir_core.specs.declared.program.Module.{Module}
-use Rattle.ir_tree.specs.declared.tree.Operation.{Operation}
+use Rattle.ir_instruction_trees.specs.declared.tree.Operation.{Operation}
 use Rattle.ir_print.specs.Instructions.{op_text}
 use Rattle.ir_print_laws.specs.Instructions.{IsOperationTree, IsPlainOperation, IsLongOperation, operation_form}
 use Rattle.ir_print.specs.Types.{ty_text, memory_text}

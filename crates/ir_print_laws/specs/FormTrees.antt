@@ -15,12 +15,12 @@ use Rattle.ir_core.specs.declared.code.Operand.TheVariants as operands
 use Rattle.ir_core.specs.declared.program.Global.{Global}
 use Rattle.ir_grammar.specs.declared.type_tree.TypeNode.{TypeNode}
 use Rattle.ir_grammar.specs.declared.type_tree.TypeNode.TheVariants as nodes
-use Rattle.ir_grammar.specs.declared.value_tree.Index.{Index}
-use Rattle.ir_grammar.specs.declared.value_tree.Address.{Address}
-use Rattle.ir_grammar.specs.declared.value_tree.Value.{Value}
-use Rattle.ir_grammar.specs.declared.value_tree.Value.TheVariants as written
-use Rattle.ir_grammar.specs.declared.value_tree.Typed.{Typed}
-use Rattle.ir_print.specs.Names.{is_bare, is_numeral, quoted_byte}
+use Rattle.ir_value_trees.specs.declared.value_tree.Index.{Index}
+use Rattle.ir_value_trees.specs.declared.value_tree.Address.{Address}
+use Rattle.ir_value_trees.specs.declared.value_tree.Value.{Value}
+use Rattle.ir_value_trees.specs.declared.value_tree.Value.TheVariants as written
+use Rattle.ir_value_trees.specs.declared.value_tree.Typed.{Typed}
+use Rattle.ir_print_names.specs.Names.{is_bare, is_numeral, quoted_byte}
 use Rattle.ir_print.specs.Values.{width_of, global_of}
 
 -- how a name is written

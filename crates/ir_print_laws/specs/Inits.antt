@@ -8,10 +8,10 @@ use Rattle.ir_core.specs.declared.program.Init.{Init}
 use Rattle.ir_core.specs.declared.program.Init.TheVariants as inits
 use Rattle.ir_core.specs.declared.program.Global.{Global}
 use Rattle.ir_grammar.specs.declared.type_tree.TypeNode.{TypeNode}
-use Rattle.ir_grammar.specs.declared.value_tree.Address.{Address}
-use Rattle.ir_grammar.specs.declared.value_tree.InitNode.{InitNode}
-use Rattle.ir_grammar.specs.declared.value_tree.InitNode.TheVariants as nodes
-use Rattle.ir_print.specs.Names.{quoted_byte}
+use Rattle.ir_value_trees.specs.declared.value_tree.Address.{Address}
+use Rattle.ir_value_trees.specs.declared.value_tree.InitNode.{InitNode}
+use Rattle.ir_value_trees.specs.declared.value_tree.InitNode.TheVariants as nodes
+use Rattle.ir_print_names.specs.Names.{quoted_byte}
 use Rattle.ir_print.specs.Values.{global_of}
 use Rattle.ir_print_laws.specs.FormTrees.{IsMemoryTree, IsSignedTree, IsAddressTree}
 

@@ -8,7 +8,7 @@ use Rattle.ir_core.specs.declared.program.Global.{Global}
 use Rattle.ir_core.specs.declared.program.Function.{Function}
 use Rattle.ir_core.specs.declared.program.Module.{Module}
 use Rattle.ir_core.specs.Units.{has_result, results}
-use Rattle.ir_tree.specs.declared.tree.Instruction.{Instruction}
+use Rattle.ir_instruction_trees.specs.declared.tree.Instruction.{Instruction}
 use Rattle.ir_tree.specs.declared.tree.Block.{Block as BlockText}
 use Rattle.ir_tree.specs.declared.tree.Parameter.{Parameter}
 use Rattle.ir_tree.specs.declared.tree.Function.{Function as FunctionText}

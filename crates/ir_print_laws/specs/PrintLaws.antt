@@ -2,7 +2,7 @@
 use Rattle.std.specs.Prelude.{◌≤◌, length}
 use Rattle.ir_core.specs.declared.program.Module.{Module}
 use Rattle.ir_tree.specs.declared.tree.Tree.{Tree}
-use Rattle.ir_reader.specs.Functions.{IsModuleOf}
+use Rattle.ir_functions.specs.Functions.{IsModuleOf}
 use Rattle.ir_reader.specs.Reads.{Reads}
 use Rattle.ir_print.specs.Modules.{module_text}
 use Rattle.ir_print_laws.specs.ModuleTrees.{IsModuleTree}

@@ -18,7 +18,7 @@ use Rattle.ir_core.specs.declared.program.Function.{Function}
 use Rattle.ir_core.specs.declared.program.Module.{Module}
 use Rattle.ir_core.specs.Units.{has_result}
 use Rattle.ir_core.specs.Layout.{measure}
-use Rattle.ir_tree.specs.Instructions.{is_dropped_name}
+use Rattle.ir_instruction_trees.specs.Instructions.{is_dropped_name}
 use Rattle.ir_print.specs.Instructions.{function_of}
 use Rattle.ir_print_laws.specs.FormTrees.{written_of}
 use Rattle.ir_print_laws.specs.Instructions.{IsPlainOperation, IsLongOperation}

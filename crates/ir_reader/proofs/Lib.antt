@@ -1,5 +1,1 @@
-pub mod Shown
-pub mod Forms
-pub mod TreeShown
-pub mod TreeForms
 pub mod Refusals

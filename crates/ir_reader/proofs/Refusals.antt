@@ -11,10 +11,10 @@ use Rattle.ir_core.specs.declared.program.What.{What}
 use Rattle.ir_core.specs.declared.program.What.TheVariants as what
 use Rattle.ir_types.specs.declared.fault.Fault.{Fault}
 use Rattle.ir_types.specs.declared.fault.Fault.TheVariants as faults
-use Rattle.ir_reader.specs.Functions.{IsModuleOf, IsTreeFault, FailsBy}
-use Rattle.ir_reader.specs.TreeCauses.{TreeFault, FitsTree}
-use Rattle.ir_reader.proofs.TreeShown.{tree_fails, none_fails}
-use Rattle.ir_reader.proofs.TreeForms.{syntax_misfits}
+use Rattle.ir_functions.specs.Functions.{IsModuleOf, IsTreeFault, FailsBy}
+use Rattle.ir_functions.specs.TreeCauses.{TreeFault, FitsTree}
+use Rattle.ir_functions.proofs.TreeShown.{tree_fails, none_fails}
+use Rattle.ir_functions.proofs.TreeForms.{syntax_misfits}
 use Rattle.ir_reader.specs.declared.reading.ReadRefusal.{ReadRefusal}
 use Rattle.ir_reader.specs.declared.reading.ReadRefusal.TheVariants as refusals
 use Rattle.ir_reader.specs.Reads.{Reads, Forms, HasFault, IsMemoryRefusal, Tells, Told, IsBlamed, IsToldFor, Refuses, Answers, HasNone, ShowsSyntax, ShowsLeftOut, ShowsName, ShowsLimit}

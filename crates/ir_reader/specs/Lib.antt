@@ -1,4 +1,1 @@
-pub mod Functions
-pub mod Causes
-pub mod TreeCauses
 pub mod Reads

@@ -10,8 +10,8 @@ use Rattle.ir_core.specs.declared.program.What.{What}
 use Rattle.ir_core.specs.declared.program.What.TheVariants as what
 use Rattle.ir_types.specs.declared.fault.Fault.{Fault}
 use Rattle.ir_types.specs.declared.fault.Fault.TheVariants as faults
-use Rattle.ir_reader.specs.Functions.{IsModuleOf}
-use Rattle.ir_reader.specs.TreeCauses.{TreeFault, FitsTree}
+use Rattle.ir_functions.specs.Functions.{IsModuleOf}
+use Rattle.ir_functions.specs.TreeCauses.{TreeFault, FitsTree}
 use Rattle.ir_reader.specs.declared.reading.ReadRefusal.{ReadRefusal}
 use Rattle.ir_reader.specs.declared.reading.ReadRefusal.TheVariants as refusals
 

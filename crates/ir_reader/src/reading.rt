@@ -4,11 +4,11 @@ ghost use Rattle.ir_text.specs.Words.{is_word};
 ghost use Rattle.ir_tree.specs.Modules.{IsTextOf};
 ghost use Rattle.ir_tree.specs.declared.tree.Tree.{Tree};
 ghost use Rattle.ir_types.specs.declared.fault.Fault.TheVariants as faults;
-ghost use Rattle.ir_reader.specs.Functions.{FailsBy};
+ghost use Rattle.ir_functions.specs.Functions.{FailsBy};
 ghost use Rattle.ir_reader.specs.Reads.{colon_of, written, written_left_out, Told, IsBlamed, IsToldFor, Answers, Refuses, Reads, HasNone, ShowsSyntax, ShowsLeftOut, ShowsName, ShowsLimit};
 
-use crate::functions::module_of;
 use ir_core::program::{Module, What};
+use ir_functions::functions::module_of;
 use ir_grammar::words::says;
 use ir_text::{Stop, Token, token_at};
 use ir_tree::{TextRefusal, Tree, first_left_out, read_text};

@@ -2,8 +2,8 @@
 use Rattle.std.specs.Prelude.{ℕ, ◌+◌, ◌-◌, ◌*◌, ◌%◌, ◌^◌, nat_eq, nat_lt, List, [], ◌∷◌, ◌++◌, length, map, Option, Some, None, Result, Ok, Err, slice_get, if◌then◌else◌}
 use Rattle.ir_grammar.specs.declared.type_tree.TypeNode.{TypeNode}
 use Rattle.ir_grammar.specs.declared.type_tree.TypeNode.TheVariants as nodes
-use Rattle.ir_grammar.specs.declared.value_tree.Index.{Index}
-use Rattle.ir_grammar.specs.declared.value_tree.Address.{Address}
+use Rattle.ir_value_trees.specs.declared.value_tree.Index.{Index}
+use Rattle.ir_value_trees.specs.declared.value_tree.Address.{Address}
 use Rattle.ir_core.specs.declared.types.MemTy.{MemTy, out-MemTy}
 use Rattle.ir_core.specs.declared.types.MemTy.TheOpen.{MemTy-F, Int, Ptr, Array, Struct}
 use Rattle.ir_core.specs.Layout.{size, extent_of, offset_of_field}

@@ -2,9 +2,9 @@
 use Rattle.std.specs.Prelude.{ℕ, zero, suc, Bool, true, false, nat_eq, List, [], ◌∷◌, ◌++◌, length, Option, Some, None, Result, Ok, Err, if◌then◌else◌}
 use Rattle.ir_text.specs.declared.name.Number.{Number}
 use Rattle.ir_text.specs.Quoted.{unquoted}
-use Rattle.ir_grammar.specs.declared.value_tree.Address.{Address}
-use Rattle.ir_grammar.specs.declared.value_tree.InitNode.{InitNode}
-use Rattle.ir_grammar.specs.declared.value_tree.InitNode.TheVariants as nodes
+use Rattle.ir_value_trees.specs.declared.value_tree.Address.{Address}
+use Rattle.ir_value_trees.specs.declared.value_tree.InitNode.{InitNode}
+use Rattle.ir_value_trees.specs.declared.value_tree.InitNode.TheVariants as nodes
 use Rattle.ir_core.specs.declared.types.MemTy.{MemTy, out-MemTy}
 use Rattle.ir_core.specs.declared.types.MemTy.TheOpen.{MemTy-F, Int, Ptr, Array, Struct}
 use Rattle.ir_core.specs.declared.program.Init.{Init}
@@ -16,6 +16,7 @@ use Rattle.ir_types.specs.Names.{Symbols}
 use Rattle.ir_types.specs.declared.table.Types.{Types}
 use Rattle.ir_types.specs.Types.{memory}
 use Rattle.ir_resolve.specs.Literals.{literal_of}
+use Rattle.ir_resolve.specs.Operands.{place_of_type}
 use Rattle.ir_resolve.specs.Addresses.{address}
 use Rattle.ir_resolve.specs.Same.{same_type, same_bool}
 
@@ -23,7 +24,7 @@ use Rattle.ir_resolve.specs.Same.{same_type, same_bool}
 abbrev pub Reading : Type 0
 Reading = List InitNode → Result (Init × List InitNode) Fault
 
--- where a node stands, by how much is left; a type's place is told by what it stands before
+-- where a node stands, by how much is left; a type stands where its first part does
 abbrev pub place_of : InitNode → ℕ
 place_of (nodes.Number number) = number.left
 place_of (nodes.True left) = left
@@ -35,7 +36,7 @@ place_of (nodes.Bytes text left) = left
 place_of (nodes.Array left) = left
 place_of (nodes.Struct left) = left
 place_of (nodes.Packed left) = left
-place_of (nodes.Of given) = 0
+place_of (nodes.Of given) = place_of_type given
 place_of (nodes.Close left) = left
 
 abbrev pub first_place : List InitNode → ℕ
@@ -91,7 +92,7 @@ leaf types symbols ty (nodes.False left) = Err (faults.Syntax left)
 leaf types symbols ty (nodes.Array left) = Err (faults.Syntax left)
 leaf types symbols ty (nodes.Struct left) = Err (faults.Syntax left)
 leaf types symbols ty (nodes.Packed left) = Err (faults.Syntax left)
-leaf types symbols ty (nodes.Of given) = Err (faults.Syntax 0)
+leaf types symbols ty (nodes.Of given) = Err (faults.Syntax (place_of_type given))
 leaf types symbols ty (nodes.Close left) = Err (faults.Syntax left)
 
 -- ---- lists
@@ -101,10 +102,10 @@ closed items [] = Err (faults.Syntax 0)
 closed items (nodes.Close left ∷ rest) = Ok (inits.List items, rest)
 closed items (node ∷ rest) = Err (faults.Syntax (place_of node))
 
--- a value behind its type, which is the one that is asked
+-- a value behind its type, which is the one that is asked; another type is the first token that doesn't fit
 abbrev pub typed : Types → (MemTy → Reading) → MemTy → Reading
 typed types inner ty [] = Err (faults.Syntax 0)
-typed types inner ty (nodes.Of given ∷ rest) = memory types given >>= λ written. if same_type 4096 written ty then inner ty rest else Err (faults.Syntax (first_place rest))
+typed types inner ty (nodes.Of given ∷ rest) = memory types given >>= λ written. if same_type 4096 written ty then inner ty rest else Err (faults.Syntax (place_of_type given))
 typed types inner ty (node ∷ rest) = Err (faults.Syntax (place_of node))
 
 abbrev pub elements : Reading → ℕ → List Init → Reading

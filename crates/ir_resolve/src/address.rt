@@ -5,8 +5,8 @@ ghost use Rattle.ir_resolve.specs.Addresses.{head_distance, head_from, way_step,
 
 use crate::offsets::{distance, further, offsets_of};
 use ir_grammar::type_tree::{Type, TypeNode};
-use ir_grammar::value_tree::{Address, Index};
 use ir_types::{Fault, Named, Step, Target, Types, memory, named_target, walk};
+use ir_value_trees::value_tree::{Address, Index};
 use sqlite_items::Items;
 use std::alloc::Global;
 

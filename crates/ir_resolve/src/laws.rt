@@ -5,8 +5,8 @@ ghost use Rattle.ir_resolve.specs.Causes.{ValueFault};
 
 use crate::scope::Outer;
 use ir_core::types::Ty;
-use ir_grammar::value_tree::Value;
 use ir_types::{Fault, Table};
+use ir_value_trees::value_tree::Value;
 
 /// A law: the fault of an operand of a type shows its cause.
 pub fn operand_fault(outer: &Outer, table: &Table, ty: Ty, value: &Value, fault: Fault)

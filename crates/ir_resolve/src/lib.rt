@@ -10,8 +10,6 @@ mod offsets;
 pub mod operands;
 mod same;
 pub mod scope;
-#[cfg(test)]
-mod tests;
 mod values;
 
 pub use address::{global_number, place};

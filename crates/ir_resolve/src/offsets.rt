@@ -9,8 +9,8 @@ use crate::numbers::{extended, literal_of};
 use ir_core::layout::{field_offset, size_of};
 use ir_core::types::MemTy;
 use ir_grammar::type_tree::TypeNode;
-use ir_grammar::value_tree::Index;
 use ir_types::{Fault, Step, natural, walk, width_of};
+use ir_value_trees::value_tree::Index;
 use sqlite_items::Items;
 use std::alloc::Global;
 

@@ -8,9 +8,9 @@ use crate::scope::Outer;
 use ir_core::code::Operand;
 use ir_core::types::Ty;
 use ir_grammar::type_tree::TypeNode;
-use ir_grammar::value_tree::{Address, Value};
 use ir_text::{Name, Number};
 use ir_types::{Fault, Table, Target, target_of, type_of};
+use ir_value_trees::value_tree::{Address, Value};
 
 pub fn is_ty(a: Ty, b: Ty) -> bool
     ensures { result ≡ is_ty a b }

@@ -6,12 +6,13 @@ ghost use Rattle.ir_resolve.specs.Inits.{place_of, first_place, number_of, is_po
 
 use crate::address::place;
 use crate::numbers::literal_of;
+use crate::operands::place_of_type;
 use crate::same::same_type;
 use ir_core::program::Init;
 use ir_core::types::MemTy;
-use ir_grammar::value_tree::{Address, InitNode};
 use ir_text::{Number, unquote};
 use ir_types::{Fault, Named, Types, memory};
+use ir_value_trees::value_tree::{Address, InitNode};
 use sqlite_items::Items;
 use std::alloc::Global;
 
@@ -29,7 +30,7 @@ fn place_of(node: &InitNode) -> usize
     match node {
         InitNode::Number(number) => number.left,
         InitNode::Address(given) => given.left,
-        InitNode::Of(_) => 0,
+        InitNode::Of(given) => place_of_type(given.as_slice()),
         InitNode::True(left) => *left,
         InitNode::False(left) => *left,
         InitNode::Null(left) => *left,
@@ -184,7 +185,7 @@ impl<'a> Cursor<'a> {
                 if same_type(4096, &written, ty) {
                     self.value(scope, depth, ty)
                 } else {
-                    Err(Fault::Syntax(first_place(rest)))
+                    Err(Fault::Syntax(place_of_type(given.as_slice())))
                 }
             }
             [node, ..] => Err(Fault::Syntax(place_of(node))),

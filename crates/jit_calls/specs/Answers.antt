@@ -9,8 +9,8 @@ use Rattle.ir_meaning.specs.declared.calls.Ended.{Ended}
 use Rattle.ir_meaning.specs.declared.calls.Ended.TheVariants as ends
 use Rattle.ir_meaning.specs.declared.calls.Outcome.{Outcome}
 use Rattle.ir_meaning.specs.declared.calls.Outcome.TheVariants as outcomes
-use Rattle.ir_print.specs.Names.{name_text}
-use Rattle.ir_print.specs.Numbers.{number_text}
+use Rattle.ir_print_names.specs.Names.{name_text}
+use Rattle.ir_print_names.specs.Numbers.{number_text}
 
 -- a lower-case hexadecimal digit
 abbrev pub hexadecimal_digit : ℕ → ℕ

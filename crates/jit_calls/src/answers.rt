@@ -1,13 +1,13 @@
 // The lines of answers.
 ghost use Rattle.std.specs.Prelude.{◌≡◌, ◌<◌, ◌++◌, ◌%◌, ◌^◌, OnOk, IfOk, length, codes, decimal};
 ghost use Rattle.std.specs.Option.{option_copied};
-ghost use Rattle.ir_print.specs.Numbers.{number_text};
+ghost use Rattle.ir_print_names.specs.Numbers.{number_text};
 ghost use Rattle.jit_calls.specs.Answers.{hexadecimal_digit, hexadecimal, cut, value_text, more_values, values_text, name_in, parameters_in, result_in, ended_text, outcome_text, call_text, answer_line, outcome_line, answer_lines, outcome_lines, is_unanswered, any_unanswered, is_no_answer, any_no_answer};
 
 use ir_core::program::Function;
 use ir_core::types::{MAX_WIDTH, Ty};
 use ir_meaning::calls::{Ended, ListedCall, Outcome};
-use ir_print::{Page, name, number};
+use ir_print_names::{Page, name, number};
 use rj_num::NoMemory;
 use sqlite_items::at;
 use std::alloc::Global;

@@ -9,8 +9,6 @@ mod lists;
 mod numbers;
 mod report;
 mod scope;
-#[cfg(test)]
-mod tests;
 
 pub use answers::{answer_text, any_no_answer, any_unanswered};
 pub use lists::{CallsRefusal, read_calls};

@@ -6,7 +6,7 @@ ghost use Rattle.jit_calls.specs.Reports.{row_text, row_line, row_lines, cause_t
 use crate::answers::{outcome_text, push_answers, push_name};
 use ir_core::program::Function;
 use ir_meaning::calls::{ListedCall, Outcome};
-use ir_print::Page;
+use ir_print_names::Page;
 use ir_verify::checked::Checked;
 use rj_num::NoMemory;
 use session_types::{JobRefusal, RefusedJob, Settled, SymbolRow};

@@ -7,7 +7,7 @@ use Rattle.ir_core.specs.declared.program.Module.{Module}
 use Rattle.ir_flow.specs.Flow.{Misses}
 use Rattle.ir_flow.specs.Assigned.{Passes as PassesBy, Shows, IsUseAssigned, IsUnassigned, firsts_of}
 use Rattle.ir_flow.specs.declared.uses.Use.{Use}
-use Rattle.ir_reader.specs.Functions.{IsModuleOf, module_with}
+use Rattle.ir_functions.specs.Functions.{IsModuleOf, module_with}
 use Rattle.ir_resolve.proofs.One.{one_types}
 use Rattle.ir_meaning.specs.declared.calls.ListedCall.{ListedCall}
 use Rattle.ir_reader.specs.Reads.{Reads}

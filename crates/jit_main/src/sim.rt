@@ -18,7 +18,7 @@ use command_words::SimOptions;
 use fast_isel::quick_versions;
 use ir_data::image::Image;
 use ir_meaning::calls::ListedCall;
-use ir_print::Page;
+use ir_print_names::Page;
 use ir_verify::checked::Checked;
 use jit_calls::{answer_text, any_unanswered};
 use jit_core::{Plan, Report, run_drawn};

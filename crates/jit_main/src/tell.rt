@@ -3,7 +3,7 @@ ghost use Rattle.jit_main.specs.Ends.{no_file_text, room_text as room_line, text
 ghost use Rattle.jit_main.specs.declared.stop.Stop.TheVariants.{NoMemory as OfMemory};
 
 use crate::stop::Stop;
-use ir_print::Page;
+use ir_print_names::Page;
 use jit_text::{no_image_text, uncalled_text, unread_text, unverified_text};
 use rj_io::{Sink, write_all};
 use rj_num::NoMemory;

@@ -1,7 +1,7 @@
 -- The text that lists versions of functions.
 use Rattle.std.specs.Prelude.{ℕ, List, [], ◌∷◌, ◌++◌, length, slice_get, Option, Some, None, codes, decimal}
 use Rattle.ir_core.specs.declared.program.Function.{Function}
-use Rattle.ir_print.specs.Names.{name_text}
+use Rattle.ir_print_names.specs.Names.{name_text}
 use Rattle.rv_play.specs.declared.version.Version.{Version}
 use Rattle.rv_print.specs.Listing.{listing_of}
 

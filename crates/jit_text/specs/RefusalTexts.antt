@@ -3,7 +3,7 @@ use Rattle.std.specs.Prelude.{ℕ, List, [], ◌∷◌, ◌++◌, slice_get, Opt
 use Rattle.std.specs.Fmt.{decimal}
 use Rattle.ir_core.specs.declared.program.Function.{Function}
 use Rattle.ir_core.specs.declared.program.What.{What}
-use Rattle.ir_print.specs.Names.{name_text}
+use Rattle.ir_print_names.specs.Names.{name_text}
 use Rattle.ir_core.specs.declared.program.What.TheVariants.{Bytes, Functions, Globals, Parameters, Units, Nodes, Size}
 use Rattle.jit_calls.specs.declared.lists.CallsRefusal.{CallsRefusal}
 use Rattle.jit_calls.specs.declared.lists.CallsRefusal.TheVariants as lists

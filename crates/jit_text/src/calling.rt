@@ -3,7 +3,7 @@ ghost use Rattle.std.specs.Prelude.{◌≡◌, ◌++◌, OnOk, IfOk, codes};
 ghost use Rattle.std.specs.Fmt.{decimal};
 ghost use Rattle.jit_text.specs.RefusalTexts.{no_image_text as no_image_line, line_text, list_text, uncalled_text as uncalled_line};
 
-use ir_print::Page;
+use ir_print_names::Page;
 use jit_calls::CallsRefusal;
 use rj_num::NoMemory;
 use std::alloc::Global;

@@ -2,7 +2,7 @@ ghost use Rattle.std.specs.Prelude.{◌≡◌, ◌++◌, ◌%◌, ◌^◌, OnOk,
 ghost use Rattle.jit_text.specs.Counts.{is_value, is_void, is_stack, is_fuel, is_fault, value_of, sum_of, kinds_text, counts_line};
 
 use ir_meaning::calls::Ended;
-use ir_print::Page;
+use ir_print_names::Page;
 use rj_num::NoMemory;
 use std::alloc::Global;
 

@@ -3,13 +3,9 @@
 
 mod calling;
 mod counts;
-#[cfg(test)]
-mod many_calls_tests;
 mod page;
 mod parts;
 mod reading;
-#[cfg(test)]
-mod refusal_tests;
 mod texts;
 mod verifying;
 

@@ -3,7 +3,7 @@ ghost use Rattle.std.specs.Prelude.{◌≡◌, ◌++◌, OnOk, slice_get, codes}
 ghost use Rattle.jit_text.specs.RefusalTexts.{what_text, limit_text, name_in, symbol_text, walk_text};
 
 use ir_core::program::{Function, What};
-use ir_print::{Page, name};
+use ir_print_names::{Page, name};
 use rj_num::NoMemory;
 use sqlite_items::at;
 

@@ -4,7 +4,7 @@ ghost use Rattle.rv_print.specs.Listing.{listing_of};
 ghost use Rattle.jit_text.specs.Parts.{name_in, heading, part, parts};
 
 use ir_core::program::Function;
-use ir_print::{Page, name};
+use ir_print_names::{Page, name};
 use rj_num::NoMemory;
 use rv_play::version::Version;
 use rv_print::listing::listing;

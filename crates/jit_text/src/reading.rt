@@ -4,7 +4,7 @@ ghost use Rattle.std.specs.Fmt.{decimal};
 ghost use Rattle.jit_text.specs.RefusalTexts.{fault_text, unread_text as unread_line};
 
 use crate::page::push_limit;
-use ir_print::Page;
+use ir_print_names::Page;
 use ir_reader::ReadRefusal;
 use rj_num::NoMemory;
 use std::alloc::Global;

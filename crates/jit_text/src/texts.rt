@@ -1,7 +1,7 @@
 ghost use Rattle.std.specs.Prelude.{◌≡◌, ◌++◌, ◌<◌, IfOk, OnOk, decimal};
 ghost use Rattle.jit_text.specs.ManyCallsTexts.{first_text, head_text, body_text, next_text, functions_text, module_text, call_text, calls_text};
 
-use ir_print::Page;
+use ir_print_names::Page;
 use rj_num::NoMemory;
 use std::alloc::Global;
 

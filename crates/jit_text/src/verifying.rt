@@ -5,7 +5,7 @@ ghost use Rattle.jit_text.specs.RefusalTexts.{symbol_text, walk_text, block_text
 
 use crate::page::{push_limit, push_symbol, push_walk};
 use ir_core::program::Function;
-use ir_print::Page;
+use ir_print_names::Page;
 use ir_verify::refusal::VerifyRefusal;
 use rj_num::NoMemory;
 use std::alloc::Global;

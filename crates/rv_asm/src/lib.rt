@@ -6,5 +6,3 @@ pub mod constant;
 pub mod item;
 pub mod laws;
 pub mod layout;
-#[cfg(test)]
-mod tests;

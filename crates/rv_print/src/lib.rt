@@ -3,5 +3,3 @@
 
 pub mod listing;
 pub mod names;
-#[cfg(test)]
-mod tests;

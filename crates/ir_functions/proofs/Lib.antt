@@ -1,0 +1,4 @@
+pub mod Shown
+pub mod Forms
+pub mod TreeShown
+pub mod TreeForms

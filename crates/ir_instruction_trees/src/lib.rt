@@ -1,0 +1,7 @@
+//! Instructions in a module's text, as trees.
+#![tactic(auto)]
+
+pub mod instructions;
+mod tree;
+
+pub use tree::{Case, Incoming, Instruction, Operation};

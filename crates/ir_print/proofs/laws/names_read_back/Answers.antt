@@ -1,5 +1,0 @@
-use Rattle.ir_print.proofs.NamesBack.{globals_back}
-use Rattle.ir_print.proofs.laws.names_read_back.Goals as goal
-
-pub returns : goal.returns
-returns c = globals_back

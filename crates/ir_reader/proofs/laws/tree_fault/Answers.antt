@@ -1,5 +1,0 @@
-use Rattle.ir_reader.proofs.TreeShown.{tree_fails}
-use Rattle.ir_reader.proofs.laws.tree_fault.Goals as goal
-
-pub returns : goal.returns
-returns c = tree_fails c.args.tree.now c.args.fault c.requires
