@@ -1,3 +1,6 @@
+pub mod Fields
 mod Shows
+pub mod Nodes
 pub mod Sizes
+pub mod Stand
 pub mod Steps

@@ -1,0 +1,5 @@
+pub mod Maps
+pub mod Put
+pub mod Heads
+pub mod Wholes
+pub mod Adding
