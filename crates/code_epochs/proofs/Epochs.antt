@@ -14,7 +14,7 @@ use Rattle.code_epochs.specs.declared.parts.HartPart.{HartPart}
 use Rattle.code_epochs.specs.declared.parts.Draft.{Draft}
 use Rattle.code_epochs.specs.declared.parts.Look.{Look}
 use Rattle.code_epochs.specs.declared.parts.Book.{Book}
-use Rattle.code_epochs.specs.Sound.{At, Whole, Sound, BookSound, HartSound, Stand, DraftStands, DraftFits, HasPassed, Stays, MayHold, TagFits, NeverPublished, IsBase, Apart, start_of, left, count_left}
+use Rattle.code_epochs.specs.Sound.{IsText, At, Whole, Sound, BookSound, HartSound, Stand, DraftStands, DraftFits, HasPassed, Stays, MayHold, TagFits, NeverPublished, IsBase, Apart, start_of, left, count_left}
 use Rattle.code_epochs.specs.Steps.{with_status, restatus, IsUnlinked, epoch_raised, IsPending, IsMarked, Marks, with_look, hart_looked, AllPassed, header_cleared}
 use Rattle.code_epochs.proofs.Lists.{at_set, at_below, at_same, set_here, set_else}
 use Rattle.code_epochs.proofs.Harts.{announced_low}
@@ -111,6 +111,10 @@ restatus_book m cells harts code epoch epoch' book i v s b at may more counted =
           (λ (t : (j ≡ i) × (new ≡ u)). sym (ap (λ (y : VersionState). y.number) t.1) ∙ b.numbers i v at ∙ sym t.0)
           (λ (t : (j ≢ i) × At vs j u). b.numbers j u t.1)
           (at_set vs i j new u here);
+      made = λ j u t here text. ⊎_elim
+          (λ (z : (j ≡ i) × (new ≡ u)). subst (λ (y : VersionState). IsText m y t) z.1 (b.made i v t at (subst (λ (n : ℕ). At book.texts n t) z.0 text)))
+          (λ (z : (j ≢ i) × At vs j u). b.made j u t z.1 text)
+          (at_set vs i j new u here);
       stands = λ j u l here stays text. ⊎_elim
           (λ (t : (j ≡ i) × (new ≡ u)).
           let old = b.stands i v l at may.stayed (subst (λ (n : ℕ). At book.texts n l) t.0 text) in
@@ -180,7 +184,7 @@ raise_epoch_sound m x i v s can =
     }
 
 look_book : (m : Meaning) (cells : List ℕ) (harts : ℕ) (code : List ℕ) (epoch : ℕ) (book : Book) (look : Look) → BookSound m cells harts code epoch book → BookSound m cells harts code epoch (with_look book look)
-look_book m cells harts code epoch book look b = record { cell_is = b.cell_is; one_linked = b.one_linked; linked = b.linked; symbols = b.symbols; functions = b.functions; code_size = b.code_size; count = b.count; seated = b.seated; gone = b.gone; texts = b.texts; numbers = b.numbers; stands = b.stands; apart = b.apart; draft = b.draft; epoch_is = b.epoch_is; tags = b.tags }
+look_book m cells harts code epoch book look b = record { cell_is = b.cell_is; one_linked = b.one_linked; linked = b.linked; symbols = b.symbols; functions = b.functions; code_size = b.code_size; count = b.count; seated = b.seated; gone = b.gone; texts = b.texts; numbers = b.numbers; made = b.made; stands = b.stands; apart = b.apart; draft = b.draft; epoch_is = b.epoch_is; tags = b.tags }
 
 look_hart : (m : Meaning) (code : List ℕ) (epoch : ℕ) (book : Book) (look : Look) (h : ℕ) (p : HartPart) (word : ℕ) → HartSound m code epoch book h p word → HartSound m code epoch (with_look book look) h p word
 look_hart m code epoch book look h p word b = record {
@@ -252,6 +256,7 @@ code_book m cells harts code epoch book c w b out apart = record {
   gone = b.gone;
   texts = b.texts;
   numbers = b.numbers;
+  made = b.made;
   stands = λ i v t at stays text. stand_outside m code i v t c w (b.stands i v t at stays text) (out i v at stays);
   apart = b.apart;
   draft = draft_outside m (length cells) code book.versions c w book.draft apart b.draft;

@@ -28,6 +28,7 @@ first_sound m harts code_words few small = record {
     gone = λ h away. absurd (nothing away.0 h away.1);
     texts = refl;
     numbers = λ i v at. absurd (nothing i v at);
+    made = λ i v t at. absurd (nothing i v at);
     stands = λ i v t at. absurd (nothing i v at);
     apart = λ i j v w at. absurd (nothing i v at);
     draft = tt;

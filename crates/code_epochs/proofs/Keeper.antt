@@ -96,6 +96,7 @@ stored_sound m x c u d s out stands = record {
     gone = s.book.gone;
     texts = s.book.texts;
     numbers = s.book.numbers;
+    made = s.book.made;
     stands = λ i v t at stays text. stand_outside m x.code i v t c u (s.book.stands i v t at stays text) (out i v at stays);
     apart = s.book.apart;
     draft = stands;

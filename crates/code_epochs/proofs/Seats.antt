@@ -6,7 +6,9 @@ use Rattle.code_epochs.specs.declared.parts.Item.{Item}
 use Rattle.code_epochs.specs.declared.parts.Item.TheVariants.{Held}
 use Rattle.code_epochs.specs.declared.parts.HartPart.{HartPart}
 use Rattle.code_epochs.specs.declared.parts.Book.{Book}
-use Rattle.code_epochs.specs.Sound.{At, Whole, Sound, HartSound, Backed}
+use Rattle.code_epochs.specs.declared.state.Status.{Status}
+use Rattle.code_epochs.specs.declared.state.Status.TheVariants.{Linked, Unlinked, Pending, GivenUp}
+use Rattle.code_epochs.specs.Sound.{At, Whole, Sound, HartSound, Backed, AreMade, HoldsStaying, MayHold, Stays}
 use Rattle.code_epochs.specs.Steps.{new_part, book_split, AllLinked, hart_split, IsIdle, book_joined, hart_joined}
 use Rattle.code_epochs.proofs.Lists.{at_snoc, at_below, at_same, at_longer, at_some}
 use Rattle.code_epochs.proofs.Keeper.{Grows, backed_grows}
@@ -45,6 +47,7 @@ split_sound m x s room all =
         gone = λ h away. let low = s.book.gone h away in omega arith;
         texts = s.book.texts;
         numbers = s.book.numbers;
+        made = s.book.made;
         stands = s.book.stands;
         apart = s.book.apart;
         draft = s.book.draft;
@@ -88,6 +91,7 @@ join_sound m x h p s idle =
         gone = λ g away. ⊎_elim (λ (t : At x.book.gone away.0 g). s.book.gone g (away.0, t)) (λ (t : (away.0 ≡ length x.book.gone) × (h ≡ g)). subst (λ (n : ℕ). n < length x.harts) t.1 inside) (at_snoc x.book.gone h g away.0 away.1);
         texts = s.book.texts;
         numbers = s.book.numbers;
+        made = s.book.made;
         stands = s.book.stands;
         apart = s.book.apart;
         draft = s.book.draft;
@@ -131,3 +135,19 @@ joined_backed m x s i p was e pass here =
     let low = at_below x.harts gone.0 p there in
     let word = at_some x.announced gone.0 (let more = s.places.0 in omega arith) in
     (s.harts gone.0 p word.0 there word.1).ended e pass here
+
+-- each version has its words still, also one that was given up
+pub are_made : (m : Meaning) (x : Whole) → Sound m x → AreMade m x.book
+are_made m x s = record { texts = s.book.texts; made = s.book.made }
+
+may_stay_held : (hart word : ℕ) (s : Status) → MayHold hart word s → Stays s
+may_stay_held hart word Linked may = tt
+may_stay_held hart word Unlinked may = tt
+may_stay_held hart word (Pending tag passed) may = tt
+may_stay_held hart word GivenUp may = absurd may
+
+-- what a hart holds isn't given up
+pub holds_staying : (m : Meaning) (x : Whole) (h : ℕ) (p : HartPart) (word : ℕ) → Sound m x → At x.harts h p → At x.announced h word → HoldsStaying x.book p.pass
+holds_staying m x h p word s here there = λ q k b at.
+    let o = (s.harts h p word here there).held q k b at in
+    (o.0, o.1, o.2, o.3, o.4, may_stay_held h word o.1.status o.5)

@@ -8,7 +8,7 @@ use Rattle.ir_meaning.specs.Plays.{Meaning}
 use Rattle.code_epochs.specs.declared.parts.HartPart.{HartPart}
 use Rattle.code_epochs.specs.declared.parts.Draft.{Draft}
 use Rattle.code_epochs.specs.declared.parts.Book.{Book}
-use Rattle.code_epochs.specs.Sound.{NeverPublished, At, Whole, Sound, HartSound, Stand, Stored, DraftStands, DraftFits, Stays, MayHold, TagFits, Apart, start_of, left, count_left}
+use Rattle.code_epochs.specs.Sound.{IsText, NeverPublished, At, Whole, Sound, HartSound, Stand, Stored, DraftStands, DraftFits, Stays, MayHold, TagFits, Apart, start_of, left, count_left}
 use Rattle.code_epochs.specs.Steps.{unlink, unlinked, linked_of, IsComplete, book_swapped, cell_swapped}
 use Rattle.code_epochs.proofs.Lists.{at_set, at_snoc, at_below, set_here, set_else, at_longer}
 use Rattle.code_epochs.proofs.Idle.{may_stay}
@@ -175,6 +175,16 @@ swap_cell_sound m x d s complete =
         numbers = λ i v at. ⊎_elim
             (λ (t : (u : VersionState) × At vs i u × (unlinked k u ≡ v)). sym (ap (λ (y : VersionState). y.number) t.2) ∙ s.book.numbers i t.0 t.1)
             (λ (t : (i ≡ n) × (new ≡ v)). sym (ap (λ (y : VersionState). y.number) t.1) ∙ sym t.0)
+            (at_swapped k vs new i v at);
+        made = λ i v l at text. ⊎_elim
+            (λ (t : (u : VersionState) × At vs i u × (unlinked k u ≡ v)). ⊎_elim
+            (λ (z : At book.texts i l). subst (λ (y : VersionState). IsText m y l) t.2 (s.book.made i t.0 l t.1 z))
+            (λ (z : (i ≡ length book.texts) × (d.words ≡ l)). let low = at_below vs i t.0 t.1 in let e = s.book.texts in let f = z.0 in absurd (omega arith))
+            (at_snoc book.texts d.words l i text))
+            (λ (t : (i ≡ n) × (new ≡ v)). ⊎_elim
+            (λ (z : At book.texts i l). let low = at_below book.texts i l z in let e = s.book.texts in let f = t.0 in absurd (omega arith))
+            (λ (z : (i ≡ length book.texts) × (d.words ≡ l)). subst (λ (y : VersionState × List ℕ). IsText m y.0 y.1) (λ j. (t.1 j, z.1 j)) (stands.good, refl))
+            (at_snoc book.texts d.words l i text))
             (at_swapped k vs new i v at);
         stands = λ i v l at stays text. ⊎_elim
             (λ (t : (u : VersionState) × At vs i u × (unlinked k u ≡ v)).

@@ -110,6 +110,19 @@ DraftFits m functions code versions (Some d) = DraftStands m functions code vers
 abbrev pub NeverPublished : List VersionState → ℕ → Type 0
 NeverPublished versions k = (i : ℕ) (v : VersionState) → At versions i v → v.symbol ≢ k
 
+-- the words of the version, also of one that was given up: as many as it has, and good for its symbol
+abbrev pub IsText : Meaning → VersionState → List ℕ → Type 0
+IsText m v text = Good m v.symbol text × (length text ≡ v.words)
+
+-- each version of the book, also one that was given up, has such words
+pub record AreMade (m : Meaning) (book : Book) : Type 0 where
+  pub texts : length book.texts ≡ length book.versions
+  pub made : (i : ℕ) (v : VersionState) (t : List ℕ) → At book.versions i v → At book.texts i t → IsText m v t
+
+-- each base that the pass holds is that of a version of the book with its symbol, which isn't given up
+abbrev pub HoldsStaying : Book → List Item → Type 0
+HoldsStaying book pass = (q k b : ℕ) → At pass q (Held k b) → (i : ℕ) × (v : VersionState) × At book.versions i v × (v.symbol ≡ k) × (v.base ≡ b) × Stays v.status
+
 -- the cells, the code and the keeper's versions agree
 pub record BookSound (m : Meaning) (cells : List ℕ) (harts : ℕ) (code : List ℕ) (epoch : ℕ) (book : Book) : Type 0 where
   pub cell_is : (i : ℕ) (v : VersionState) → At book.versions i v → v.status ≡ Linked → At cells v.symbol v.base
@@ -123,6 +136,7 @@ pub record BookSound (m : Meaning) (cells : List ℕ) (harts : ℕ) (code : List
   pub gone : (h : ℕ) → Has book.gone h → h < harts
   pub texts : length book.texts ≡ length book.versions
   pub numbers : (i : ℕ) (v : VersionState) → At book.versions i v → v.number ≡ i
+  pub made : (i : ℕ) (v : VersionState) (t : List ℕ) → At book.versions i v → At book.texts i t → IsText m v t
   pub stands : (i : ℕ) (v : VersionState) (t : List ℕ) → At book.versions i v → Stays v.status → At book.texts i t → Stand m code i v t
   pub apart : (i j : ℕ) (v w : VersionState) → At book.versions i v → At book.versions j w → Stays v.status → Stays w.status → i ≢ j → Apart v.base v.words w.base w.words
   pub draft : DraftFits m (length cells) code book.versions book.draft

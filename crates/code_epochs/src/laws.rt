@@ -7,7 +7,7 @@ ghost use Rattle.code_epochs.specs.declared.parts.Draft.{Draft};
 ghost use Rattle.code_epochs.specs.declared.parts.HartPart.{HartPart};
 ghost use Rattle.code_epochs.specs.declared.parts.Book.{Book};
 ghost use Rattle.code_epochs.specs.declared.state.VersionState.{VersionState};
-ghost use Rattle.code_epochs.specs.Sound.{At, Has, Whole, Sound, Backed};
+ghost use Rattle.code_epochs.specs.Sound.{At, Has, Whole, Sound, Backed, AreMade, HoldsStaying};
 ghost use Rattle.code_epochs.specs.Passes.{items_of};
 ghost use Rattle.code_epochs.specs.Steps.{IsActive, IsIdle, cell_held, word_seen, epoch_loaded, epoch_announced, gone_idle, CanBegin, draft_begun, IsNext, word_stored, IsComplete, cell_swapped, AllLinked, hart_split, hart_joined, IsUnlinked, epoch_raised, IsPending, Marks, hart_looked, AllPassed, header_cleared, first_whole};
 
@@ -37,10 +37,12 @@ pub fn keeper_steps()
     ensures clear { (m : Meaning) (x : Whole) (i : ℕ) (v : VersionState) (tag passed : ℕ) → Sound m x → IsPending x i v tag passed → AllPassed x passed → Sound m (header_cleared x i v) }
 {}
 
-/// The pass of a hart is backed at each step, an ended one stays backed when its hart is gone, and a backed pass is one over good
-/// versions that stand apart.
+/// The pass of a hart is backed at each step, and no version that it holds is given up; an ended one stays backed when its hart is gone;
+/// and a backed pass is one over good versions that stand apart. Each version's words are good, also once it is given up.
 pub fn backed_passes()
     ensures now { (m : Meaning) (x : Whole) (h : ℕ) (p : HartPart) (word : ℕ) → Sound m x → IsActive x h p word → Backed m (length x.code) x.book p.pass }
+    ensures stays { (m : Meaning) (x : Whole) (h : ℕ) (p : HartPart) (word : ℕ) → Sound m x → IsActive x h p word → HoldsStaying x.book p.pass }
+    ensures made { (m : Meaning) (x : Whole) → Sound m x → AreMade m x.book }
     ensures joined { (m : Meaning) (x : Whole) → Sound m x → (i : ℕ) (p : HartPart) → At x.book.joined i p → (e : ℕ) (pass : List Item) → At p.ended e pass → Backed m (length x.code) x.book pass }
     ensures rest { (m : Meaning) (n : ℕ) (book : Book) (first rest : List Item) → Backed m n book (first ++ rest) → Backed m n book rest }
     ensures good { (m : Meaning) (n : ℕ) (book : Book) (pass : List Item) → n ≤ 4194304 → Backed m n book pass → BacksAll m n (items_of pass) }

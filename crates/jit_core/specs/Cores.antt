@@ -164,6 +164,10 @@ IsRightAnswer c place e =
     (call : ListedCall) × At c.work.calls.now place call
     × ((memory : Memory) → IsTyped c.all.now → IsInvocation (meaning_of c) (top_invocation call.symbol call.args memory) → IsImageOf memory c.work.image.now → RightFrom c.all.now call memory e)
 
+-- this is the answer to the call at this place that the seat of its hart has
+abbrev pub IsSeatAnswer : Core → ℕ → Ended → Type 0
+IsSeatAnswer c place e = (s : Seat) × At c.seats.items (place % length c.seats.items) s × At s.answers.items (place / length c.seats.items) e
+
 -- the hart that makes the call at this place has not as many answers
 abbrev pub HasNotEnded : Core → ℕ → Type 0
 HasNotEnded c place = (s : Seat) → At c.seats.items (place % length c.seats.items) s → length s.answers.items ≤ place / length c.seats.items

@@ -4,7 +4,7 @@ ghost use Rattle.jit_core.specs.declared.event.Event.TheVariants as event;
 ghost use Rattle.jit_core.specs.declared.event.Stepped.TheVariants as stepped;
 ghost use Rattle.jit_core.specs.Left.{all_left};
 ghost use Rattle.jit_core.specs.Events.{Told};
-ghost use Rattle.jit_core.specs.Cores.{Stands, IsKept, IsEvent, IsAnswer, IsSameCore, StandsMore, IsRightAnswer, HasNotEnded};
+ghost use Rattle.jit_core.specs.Cores.{Stands, IsKept, IsEvent, IsAnswer, IsSameCore, StandsMore, IsRightAnswer, IsSeatAnswer, HasNotEnded};
 
 use crate::event::{Event, Stepped};
 use crate::harts::step_hart;
@@ -68,6 +68,7 @@ impl Core<'_> {
     pub fn answer(&self, call: u32) -> Option<Ended>
         requires kept { IsKept self.now }
         ensures right { IfSome result (IsRightAnswer self.now call) }
+        ensures seat { IfSome result (IsSeatAnswer self.now call) }
         ensures none { IfNone result (HasNotEnded self.now call) }
     {
         let harts = self.seats.len();

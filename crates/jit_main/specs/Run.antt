@@ -51,7 +51,7 @@ pub record HasSettled (marks : List ℕ) (program : Program) (list : List Listed
   pub versions : List Version
   pub quick : AreQuick program versions
   pub fits : words_needed versions ≤ options.code_words
-  pub comes : IsSettled program list options.harts (length program.module_.functions) marks never settled
+  pub comes : IsSettled program list options.harts (length program.module_.functions) options.code_words marks never settled
 
 -- the texts are those of a module and its list of calls, and a session of these calls came to this
 pub record HasRun (marks : List ℕ) (module_text calls_text : List ℕ) (options : RunOptions) (program : Program) (list : List ListedCall) (settled : Settled) : Type 0 where

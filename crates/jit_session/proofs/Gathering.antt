@@ -1,7 +1,7 @@
 -- What harts leave, put together.
-use Rattle.std.proofs.Common.{◌≡◌, ℕ, zero, suc, ◌+◌, ◌/◌, ◌%◌, ◌<◌, ◌≤◌, List, [], ◌∷◌, ◌++◌, length, take, get_or, refl, sym, ap, subst, ◌∙◌, ⊎_elim, arith}
+use Rattle.std.proofs.Common.{◌≡◌, ℕ, zero, suc, ◌+◌, ◌*◌, ◌/◌, ◌%◌, ◌<◌, ◌≤◌, List, [], ◌∷◌, ◌++◌, length, take, get_or, refl, sym, ap, subst, ◌∙◌, ⊎_elim, arith}
 use Rattle.std.specs.Prelude.{slice_index}
-use Rattle.std.proofs.Math.Nat.{mul-le-mul_left, mod-add-div}
+use Rattle.std.proofs.Math.Nat.{mul-le-mul_left, mul-suc, mod-add-div, mod-lt}
 use Rattle.std.proofs.Math.Seq.{take-suc}
 use Rattle.std.proofs.lemmas.Bool.{cases_lt}
 use Rattle.std.proofs.lemmas.List.Sums.{sum_by_push}
@@ -16,8 +16,9 @@ use Rattle.entry_counts.specs.declared.seat.CountSeat.{CountSeat}
 use Rattle.entry_counts.proofs.Sums.{times_append}
 use Rattle.redirect_cells.specs.declared.hart_seat.HartSeat.{HartSeat}
 use Rattle.jit_session.specs.declared.runner.Runner.{Runner}
-use Rattle.jit_session.specs.Runs.{AllRight, HasAnswered, place_of}
-use Rattle.jit_session.specs.Settling.{IsRow, column, seats_of}
+use Rattle.jit_session.specs.Runs.{AllRight, Each, HasAnswered, place_of}
+use Rattle.jit_session.specs.Settling.{IsRow, AreAnswersOf, column, seats_of}
+use Rattle.code_epochs.proofs.Lists.{at_below, at_last, at_longer}
 
 right-push : (program : Program) (calls : List ListedCall) (ends : List Ended) (call : ListedCall) (end : Ended) → AllRight program calls ends → Right program call end
     → AllRight program (calls ++ call ∷ []) (ends ++ end ∷ [])
@@ -69,3 +70,58 @@ counted_more k symbols c joined rows row low is none before =
 pub seats_long : {G : Type 0} (runners : List (Runner G)) → length (seats_of runners) ≡ length runners
 seats_long [] = refl
 seats_long (x ∷ runners) = ap suc (seats_long runners)
+
+-- ---- each answer in its call's place
+
+get_any : {A : Type 0} (xs : List A) (i : ℕ) (a b : A) → i < length xs → get_or xs i a ≡ get_or xs i b
+get_any [] i a b low = absurd (omega arith)
+get_any (x ∷ xs) zero a b low = refl
+get_any (x ∷ xs) (suc i) a b low = get_any xs i a b (omega arith)
+
+pub at_get : {A : Type 0} (xs : List A) (i : ℕ) (x : A) → At xs i x → x ≡ get_or xs i x
+at_get [] i x at = absurd (some-ne-none x (sym at))
+at_get (y ∷ xs) zero x at = sym (some-injective y x at)
+at_get (y ∷ xs) (suc i) x at = at_get xs i x at
+
+-- a place is that of one call of one hart
+same_number : (n h i q s : ℕ) → h < n → q < n → h + n * i ≡ q + n * s → i ≡ s
+same_number n h i q s low low' e = ⊎_elim
+    (λ (lt : i < s). absurd (let more = mul-le-mul_left n (as_le i s lt) in let k = mul-suc n i in let bad : ⊥ = omega (arith, more, k, e, low, low') in bad))
+    (λ (ge : s ≤ i). ⊎_elim
+    (λ (lt : s < i). absurd (let more = mul-le-mul_left n (as_le s i lt) in let k = mul-suc n s in let bad : ⊥ = omega (arith, more, k, e, low, low') in bad))
+    (λ (le : i ≤ s). omega (arith, ge, le))
+    (cases_lt s i))
+    (cases_lt i s)
+  where
+    as_le : (a b : ℕ) → a < b → suc a ≤ b
+    as_le a b lt = omega (arith, lt)
+
+module _ {G : Type 0} (runners : List (Runner G)) (place : ℕ) (answers more : List Ended) (r : Runner G) (e : Ended) where
+  place_number : 0 < length runners → (h i : ℕ) → h < length runners → h + length runners * i ≡ place → i ≡ place / length runners
+  place_number positive h i low is =
+      same_number (length runners) h i (place % length runners) (place / length runners) low (mod-lt place positive) (is ∙ sym (mod-add-div place (length runners)))
+
+  place_hart : 0 < length runners → (h i : ℕ) → h < length runners → h + length runners * i ≡ place → h ≡ place % length runners
+  place_hart positive h i low is =
+      let whole = mod-add-div place (length runners) in
+      let same : length runners * i ≡ length runners * (place / length runners) = ap (λ (k : ℕ). length runners * k) (place_number positive h i low is) in
+      omega (arith, whole, same, is)
+
+  same_place : 0 < length runners → more ≡ answers ++ e ∷ [] → length answers ≡ place → r ≡ get_or runners (place % length runners) r → e ≡ get_or r.answers.items (place / length runners) e
+      → (h : ℕ) (d : Runner G) → h < length runners → (i : ℕ) (u : Ended) → At (get_or runners h d).answers.items i u → h + length runners * i ≡ place → At more (h + length runners * i) u
+  same_place positive items long runner answer h d low i u at is =
+      let number : i ≡ place / length runners = place_number positive h i low is in
+      let hart : h ≡ place % length runners = place_hart positive h i low is in
+      let one : get_or runners h d ≡ r = get_any runners h d r low ∙ ap (λ (k : ℕ). get_or runners k r) hart ∙ sym runner in
+      let here : At r.answers.items i u = subst (λ (q : Runner G). At q.answers.items i u) one at in
+      let same : u ≡ e = at_get r.answers.items i u here ∙ get_any r.answers.items i u e (at_below r.answers.items i u here) ∙ ap (λ (k : ℕ). get_or r.answers.items k e) number ∙ sym answer in
+      subst (λ (l : List Ended). At l (h + length runners * i) u) (sym items)
+      (subst (λ (k : ℕ). At (answers ++ e ∷ []) k u) (long ∙ sym is) (subst (λ (x : Ended). At (answers ++ e ∷ []) (length answers) x) (sym same) (at_last answers e)))
+
+  -- one answer more stands in its call's place
+  pub one_more_same : 0 < length runners → more ≡ answers ++ e ∷ [] → length answers ≡ place → r ≡ get_or runners (place % length runners) r → e ≡ get_or r.answers.items (place / length runners) e
+      → Each (λ h (q : Runner G). AreAnswersOf place (length runners) h answers q.answers.items) runners → Each (λ h (q : Runner G). AreAnswersOf (place + 1) (length runners) h more q.answers.items) runners
+  one_more_same positive items long runner answer all h d low i u at below = ⊎_elim
+      (λ (lt : h + length runners * i < place). subst (λ (l : List Ended). At l (h + length runners * i) u) (sym items) (at_longer answers (e ∷ []) (h + length runners * i) u (all h d low i u at lt)))
+      (λ (ge : place ≤ h + length runners * i). same_place positive items long runner answer h d low i u at (omega (arith, ge, below)))
+      (cases_lt (h + length runners * i) place)

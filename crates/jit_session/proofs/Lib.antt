@@ -26,3 +26,4 @@ pub mod Going
 pub mod Settled
 pub mod Firsts
 pub mod Words
+pub mod ServedRows

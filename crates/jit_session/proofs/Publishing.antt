@@ -19,7 +19,7 @@ use Rattle.redirect_cells.specs.Keeping.{IsCause, IsCurrent, Published}
 use Rattle.session_types.specs.declared.settled.JobRefusal.{JobRefusal}
 use Rattle.session_types.specs.declared.settled.RefusedJob.{RefusedJob}
 use Rattle.jit_session.specs.Shelves.{KeepsOthers}
-use Rattle.jit_session.proofs.Shelves.{published_has, published_keeps}
+use Rattle.jit_session.proofs.Shelves.{published_has, published_keeps, published_still, still_again}
 use Rattle.jit_session.specs.Levels.{IsForRoom, IsJobCause, IsRaised, IsRefusedJob, IsSameCause, IsSameMake}
 
 -- a level is at most 3
@@ -62,8 +62,9 @@ raised old new version program n symbol level p low is =
       has = (has.state, subst (λ (k : ℕ). IsCurrent new k has.state) is.of_symbol has.current, has.level ∙ is.of_level);
       others = subst (KeepsOthers old new) is.of_symbol (published_keeps old new version n p);
       count = (let more = p.count in omega arith);
+      still = published_still old new version n p;
     }
 
 -- a symbol that has the level already keeps all as it is
 pub raised_already : (shelf : Shelf) (symbol level : ℕ) (v : VersionState) → IsCurrent shelf symbol v → v.level ≡ level → IsRaised shelf shelf symbol level
-raised_already shelf symbol level v is at_level = record { has = (v, is, at_level); others = λ k w other at. at; count = omega arith }
+raised_already shelf symbol level v is at_level = record { has = (v, is, at_level); others = λ k w other at. at; count = omega arith; still = still_again shelf.versions.items }

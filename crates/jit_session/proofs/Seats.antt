@@ -16,7 +16,7 @@ use Rattle.entry_counts.specs.declared.seat.CountSeat.{CountSeat}
 use Rattle.entry_counts.specs.Tally.{times, with_entry}
 use Rattle.entry_counts.proofs.Sums.{times_same, times_one}
 use Rattle.redirect_cells.specs.declared.hart_seat.HartSeat.{HartSeat}
-use Rattle.redirect_cells.specs.Kept.{Begun, IsBacked, meaning_of, part_of, word_in}
+use Rattle.redirect_cells.specs.Kept.{Begun, WasServed, meaning_of, part_of, word_in}
 use Rattle.jit_session.specs.Benches.{has_begun, HasHad, HasCounted, StandsFor}
 
 -- the announced word is above 0 where the seat has begun
@@ -93,8 +93,8 @@ goes_on since s s' c c' pass counted item f begun table number begun' part =
 -- the pass has ended
 pub ends : (since s s' : HartSeat) (c c' : CountSeat) (pass : List ending.Item) (counted : List ℕ) → StandsFor since c s c' pass counted
     → Begun s.seat.me.0.role → s'.table ≡ s.table → s'.number ≡ s.number → word_in s'.seat.me.0.role ≡ 0 → part_of s'.seat.me.0 ≡ ended_part (part_of s.seat.me.0)
-    → IsBacked (meaning_of s.table.now.table.shared.key) s.table.now.code_words (part_of s.seat.me.0).pass → StandsFor since c s' c' pass counted
-ends since s s' c c' pass counted f begun table number idle part backed =
+    → WasServed s.table.now.table.shared.key (part_of s.seat.me.0).pass → StandsFor since c s' c' pass counted
+ends since s s' c c' pass counted f begun table number idle part served =
     let had = had_now since s pass begun f.had in
     let last = (part_of s.seat.me.0).pass in record {
       table = table ∙ f.table;
@@ -103,7 +103,7 @@ ends since s s' c c' pass counted f begun table number idle part backed =
         last,
         had.0,
         ap (λ (p : HartPart). p.ended) part ∙ ap (λ (l : List (List Item)). l ++ last ∷ []) had.1,
-        subst (λ t. IsBacked (meaning_of t.now.table.shared.key) t.now.code_words last) (sym table) backed,
+        subst (λ t. WasServed t.now.table.shared.key last) (sym table) served,
       );
       count = f.count;
     }

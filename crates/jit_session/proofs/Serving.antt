@@ -24,7 +24,6 @@ use Rattle.hart.proofs.Answering.{right_answers}
 use Rattle.code_epochs.specs.declared.parts.Item.{Item}
 use Rattle.code_epochs.specs.Passes.{items_of}
 use Rattle.code_epochs.specs.Sound.{At}
-use Rattle.code_epochs.proofs.Good.{good_backed}
 use Rattle.code_epochs.proofs.Lists.{at_snoc}
 use Rattle.entry_counts.specs.Tally.{times}
 use Rattle.entry_counts.specs.declared.counts.Counts.{Counts}
@@ -32,7 +31,7 @@ use Rattle.entry_counts.specs.declared.seat.CountSeat.{CountSeat}
 use Rattle.redirect_cells.specs.declared.hart_seat.HartSeat.{HartSeat}
 use Rattle.redirect_cells.specs.Kept.{meaning_of, part_of}
 use Rattle.jit_session.specs.Benches.{has_begun, HasHad, StandsFor}
-use Rattle.jit_session.proofs.Answers.{meaning_in}
+use Rattle.jit_session.proofs.Answers.{meaning_in, was_backed}
 use Rattle.jit_session.specs.Calls.{IsCallOf, AreCallsOf}
 use Rattle.jit_session.specs.Runs.{IsReady, IsImage, place_of}
 use Rattle.jit_session.specs.Runners.{IsWork}
@@ -51,7 +50,7 @@ served_one program call image h h' s s' c c' pass counted e typed r is l stands 
     let table = s.table.now in
     let later = s'.table.now in
     let had : HasHad false later (part_of s.seat.me.0) (part_of s'.seat.me.0) pass = subst (λ (x : Bool). HasHad x later (part_of s.seat.me.0) (part_of s'.seat.me.0) pass) idle stands.had in
-    let there : Backed (meaning_of later.table.shared.key) later.code_words (items_of had.0) = good_backed (meaning_of later.table.shared.key) later.code_words had.3.0 had.0 later.sizes.1 had.3.1 in
+    let there : Backed (meaning_of later.table.shared.key) later.code_words (items_of had.0) = was_backed later had.0 had.3 in
     let here : Backed (meaning_of table.table.shared.key) table.code_words (items_of had.0) = subst (λ t. Backed (meaning_of t.now.table.shared.key) t.now.code_words (items_of had.0)) stands.table there in
     record {
       run = record { pass = had.0; answer = e; counted = counted };

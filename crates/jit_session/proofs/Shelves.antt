@@ -1,17 +1,18 @@
 -- Linked versions after a collection and after a publication.
-use Rattle.std.proofs.Common.{◌≡◌, ℕ, ◌+◌, ◌<◌, List, length, true, false, sym, refl, ap, subst, ◌∙◌, ⊎_elim}
+use Rattle.std.proofs.Common.{◌≡◌, ◌⊎◌, ℕ, ◌+◌, ◌<◌, List, length, true, false, sym, refl, ap, subst, ◌∙◌, inl, inr, ⊎_elim}
+use Rattle.std.proofs.lemmas.Bool.{cases_eq}
 use Rattle.code_epochs.specs.declared.state.Status.{Status}
 use Rattle.code_epochs.specs.declared.state.Status.TheVariants.{Linked, Unlinked, Pending, GivenUp}
 use Rattle.code_epochs.specs.declared.state.VersionState.{VersionState}
 use Rattle.code_epochs.specs.declared.parts.Book.{Book}
 use Rattle.code_epochs.specs.Sound.{At}
-use Rattle.code_epochs.specs.Steps.{linked_of}
+use Rattle.code_epochs.specs.Steps.{linked_of, with_status}
 use Rattle.code_epochs.proofs.Lists.{at_below, set_here, set_else}
 use Rattle.rv_play.specs.declared.version.Version.{Version}
 use Rattle.code_epochs.specs.declared.shelf.Shelf.{Shelf}
 use Rattle.code_epochs.specs.Shelf.{is_linked}
 use Rattle.redirect_cells.specs.Kept.{draft_at}
-use Rattle.redirect_cells.specs.Keeping.{Collected, IsSameShelf, IsSettled, Published, is_pending}
+use Rattle.redirect_cells.specs.Keeping.{Collected, IsSameShelf, IsSettled, Published, AreStill, is_pending}
 use Rattle.jit_session.specs.Shelves.{KeepsAll, KeepsOthers, HasVersion}
 
 off : true ≡ false → ⊥
@@ -61,3 +62,40 @@ module _ (old new : Shelf) (version : Version) (n : ℕ) (p : Published old new 
     level = refl;
     words = refl;
   }
+
+-- ---- each earlier version is there still
+
+still_with : (new : List VersionState) (i : ℕ) (v w : VersionState) (s : Status) → At new i w → w ≡ with_status v s → (t : Status) × At new i (with_status v t)
+still_with new i v w s at is = (s, subst (At new i) is at)
+
+pub collected_still : (before after : Book) (old new : Shelf) (harts given : ℕ) → Collected before after old new harts (length old.versions.items) given → AreStill old.versions.items new.versions.items
+collected_still before after old new harts given c i v at =
+    let w = c.settled i v (at_below old.versions.items i v at) at in
+    ⊎_elim
+    (λ t. still_with new.versions.items i v w.0 v.status w.1 t.1)
+    (λ t. ⊎_elim (λ u. still_with new.versions.items i v w.0 GivenUp w.1 u.0) (λ u. still_with new.versions.items i v w.0 (Pending t.0 u.0) w.1 u.1) t.3)
+    w.2
+
+pub same_still : (old new : Shelf) → IsSameShelf old new → AreStill old.versions.items new.versions.items
+same_still old new same i v at = (v.status, subst (λ (l : List VersionState). At l i v) (sym same.0) at)
+
+pub still_again : (versions : List VersionState) → AreStill versions versions
+still_again versions i v at = (v.status, at)
+
+pub still_still : (a b c : List VersionState) → AreStill a b → AreStill b c → AreStill a c
+still_still a b c first then_ i v at = let w = first i v at in then_ i (with_status v w.0) w.1
+
+linked_or : (s : Status) → (is_linked s ≡ true) ⊎ (is_linked s ≡ false)
+linked_or Linked = inl refl
+linked_or Unlinked = inr refl
+linked_or (Pending tag passed) = inr refl
+linked_or GivenUp = inr refl
+
+pub published_still : (old new : Shelf) (version : Version) (n : ℕ) → Published old new version n → AreStill old.versions.items new.versions.items
+published_still old new version n p i v at = ⊎_elim
+    (λ (same : v.symbol ≡ version.symbol). ⊎_elim
+    (λ is. let r = p.replaced i v at same is in (Pending r.0 0, r.1))
+    (λ is. (v.status, p.earlier i v at is))
+    (linked_or v.status))
+    (λ other. (v.status, p.others i v at other))
+    (cases_eq v.symbol version.symbol)

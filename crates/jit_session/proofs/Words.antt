@@ -16,7 +16,15 @@ use Rattle.code_epochs.specs.Shelf.{is_linked}
 use Rattle.redirect_cells.specs.Keeping.{Collected, IsSettled, LinkedAreCurrent, NonePending, NoneUnlinked, is_pending, kept_by, held_words}
 use Rattle.session_types.specs.declared.settled.SymbolRow.{SymbolRow}
 use Rattle.jit_session.specs.Runs.{Each}
+use Rattle.redirect_cells.specs.Keeping.{IsCurrent}
 use Rattle.jit_session.specs.Sessions.{IsLinkedRow, words_of_rows}
+
+-- the row of a symbol by the linked version of a shelf
+pub record IsLinkedOn (shelf : Shelf) (k : ℕ) (row : SymbolRow) : Type 0 where
+  pub version : VersionState
+  pub current : IsCurrent shelf k version
+  pub level : row.level ≡ version.level
+  pub words : row.words ≡ version.words
 
 -- ---- sums over numbers
 
@@ -141,7 +149,7 @@ module _ (shelf : Shelf) (none_pending : NonePending shelf.versions.items) (none
       (λ none. none)
       (stands i u at)
 
-  row-share : (k : ℕ) (row : SymbolRow) → IsLinkedRow shelf k row → share shelf.versions.items k ≡ row.words + 1
+  row-share : (k : ℕ) (row : SymbolRow) → IsLinkedOn shelf k row → share shelf.versions.items k ≡ row.words + 1
   row-share k row is =
       let v = is.version in
       let c = is.current in
@@ -150,10 +158,37 @@ module _ (shelf : Shelf) (none_pending : NonePending shelf.versions.items) (none
       let w = is.words in
       omega (arith, a, b, w)
 
-  pub held-rows : (rows : List SymbolRow) → length shelf.current.items ≡ length rows → Each (IsLinkedRow shelf) rows → held_words shelf.versions.items ≡ words_of_rows rows
+  pub held-rows : (rows : List SymbolRow) → length shelf.current.items ≡ length rows → Each (IsLinkedOn shelf) rows → held_words shelf.versions.items ≡ words_of_rows rows
   held-rows rows long linked =
       sym (held-shares (length rows) shelf.versions.items (is-of (length rows) long))
       ∙ sym (rows-total (share shelf.versions.items) rows (λ i d low. row-share i (slice_index_or rows i d) (linked i d low)))
+
+is-linked : (s : Status) → is_linked s ≡ true → s ≡ Linked
+is-linked Linked is = refl
+is-linked Unlinked is = absurd (cc)
+is-linked (Pending tag passed) is = absurd (cc)
+is-linked GivenUp is = absurd (cc)
+
+-- the rows by the book that has these versions
+pub linked-rows : (shelf : Shelf) (book : Book) → book.versions ≡ shelf.versions.items → LinkedAreCurrent shelf.versions.items shelf.current.items → (rows : List SymbolRow) → Each (IsLinkedOn shelf) rows → Each (IsLinkedRow book) rows
+linked-rows shelf book same current_are rows all i d low =
+    let is = all i d low in
+    let c = is.current in
+    let vs : List VersionState = shelf.versions.items in
+    record {
+      number = c.0;
+      version = is.version;
+      stands = subst (λ (l : List VersionState). At l c.0 is.version) (sym same) c.2;
+      linked = is-linked is.version.status c.3;
+      symbol = c.4;
+      only = λ j v at linked of.
+          let here : At vs j v = subst (λ (l : List VersionState). At l j v) same at in
+          let there : At shelf.current.items i (j + 1) = subst (λ (k : ℕ). At shelf.current.items k (j + 1)) of (current_are j v here (ap is_linked linked)) in
+          let one = at_same shelf.current.items i (j + 1) (c.0 + 1) there c.1 in
+          omega (arith, one);
+      level = is.level;
+      words = is.words;
+    }
 
 -- ---- after a collection the linked versions are the current ones still
 

@@ -10,7 +10,7 @@ use Rattle.redirect_cells.specs.declared.view.Role.{Role}
 use Rattle.redirect_cells.specs.declared.view.Role.TheVariants.{Hart, Keeper, Spent}
 use Rattle.redirect_cells.specs.declared.table.CodeTable.{CodeTable}
 use Rattle.redirect_cells.specs.declared.hart_seat.HartSeat.{HartSeat}
-use Rattle.redirect_cells.specs.Kept.{meaning_of, part_of, IsBacked}
+use Rattle.redirect_cells.specs.Kept.{part_of, WasServed}
 
 -- the seat is one of a hart that has announced an epoch
 abbrev pub has_begun : Role → Bool
@@ -18,11 +18,11 @@ has_begun (Hart v) = nat_lt 0 v.word
 has_begun (Keeper book) = false
 has_begun Spent = false
 
--- What the hart knows now, beside what it knew then: the pass is on its way, or it is the one that has ended since, and backed.
+-- What the hart knows now, beside what it knew then: the pass is on its way, or it is the one that has ended since, over which the hart was served.
 abbrev pub HasHad : Bool → CodeTable → HartPart → HartPart → List ending.Item → Type 0
 HasHad true table since now pass = (items_of now.pass ≡ pass) × (now.ended ≡ since.ended)
 HasHad false table since now pass =
-    (last : List Item) × (items_of last ≡ pass) × (now.ended ≡ since.ended ++ last ∷ []) × IsBacked (meaning_of table.table.shared.key) table.code_words last
+    (last : List Item) × (items_of last ≡ pass) × (now.ended ≡ since.ended ++ last ∷ []) × WasServed table.table.shared.key last
 
 -- these symbols were counted since then, each up to the most that a seat counts
 pub record HasCounted (since now : CountSeat) (counted : List ℕ) : Type 0 where

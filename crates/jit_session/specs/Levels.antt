@@ -1,5 +1,5 @@
 -- The level of each symbol once a session has settled.
-use Rattle.std.specs.Prelude.{◌≡◌, ◌⊎◌, ℕ, ◌+◌, ◌<◌, ◌≤◌, List, [], ◌∷◌, ◌++◌, length, Bool, true}
+use Rattle.std.specs.Prelude.{◌≡◌, ◌≢◌, ◌⊎◌, ℕ, ◌+◌, ◌<◌, ◌≤◌, List, [], ◌∷◌, ◌++◌, length, Bool, true}
 use Rattle.ir_core.specs.Program.{Program}
 use Rattle.code_epochs.specs.Sound.{At}
 use Rattle.code_epochs.specs.declared.refusals.PublishRefusal.{PublishRefusal}
@@ -11,7 +11,8 @@ use Rattle.rv_play.specs.declared.version.Version.{Version}
 use Rattle.rv_play.specs.Versions.{IsVersion}
 use Rattle.entry_counts.specs.declared.seat.CountSeat.{CountSeat}
 use Rattle.code_epochs.specs.declared.shelf.Shelf.{Shelf}
-use Rattle.redirect_cells.specs.Keeping.{IsCause, IsCurrent}
+use Rattle.code_epochs.specs.declared.parts.Book.{Book}
+use Rattle.redirect_cells.specs.Keeping.{IsCause, IsCurrent, AreStill, AllGone, HasSpace, NonePending, NoneUnlinked}
 use Rattle.session_types.specs.declared.settled.JobRefusal.{JobRefusal}
 use Rattle.session_types.specs.declared.settled.JobRefusal.TheVariants.{Crowded, NoRoom, NoMemory}
 use Rattle.session_types.specs.declared.settled.RefusedJob.{RefusedJob}
@@ -20,6 +21,10 @@ use Rattle.jit_session.specs.Shelves.{KeepsOthers}
 -- the linked version of the symbol has this level
 abbrev pub HasLevel : Shelf → ℕ → ℕ → Type 0
 HasLevel shelf symbol level = (v : VersionState) × IsCurrent shelf symbol v × (v.level ≡ level)
+
+-- the linked version of the symbol has another level
+abbrev pub HasOtherLevel : Shelf → ℕ → ℕ → Type 0
+HasOtherLevel shelf symbol level = (v : VersionState) × IsCurrent shelf symbol v × (v.level ≢ level)
 
 -- why a version of this level wasn't made, where `test` says that it may be refused as crowded, or wasn't published on this shelf
 abbrev pub IsJobCause : Bool → Shelf → Program → ℕ → ℕ → JobRefusal → Type 0
@@ -55,6 +60,7 @@ pub record IsRaised (old new : Shelf) (symbol level : ℕ) : Type 0 where
   pub has : HasLevel new symbol level
   pub others : KeepsOthers old new symbol
   pub count : length new.versions.items ≤ length old.versions.items + 1
+  pub still : AreStill old.versions.items new.versions.items
 
 -- the job of giving the symbol this level is among these
 abbrev pub IsAmong : List RefusedJob → ℕ → ℕ → Type 0
@@ -88,4 +94,33 @@ pub record IsSettledSymbol (test : ℕ → ℕ → Bool) (old new : Shelf) (befo
   pub levelled : IsLevelled new after symbol level
   pub others : KeepsOthers old new symbol
   pub count : length new.versions.items ≤ length old.versions.items + 1
+  pub still : AreStill old.versions.items new.versions.items
   pub refused : MayAdd test before after symbol level
+
+-- The job of giving the symbol this level was refused, when the versions were these, or some of them and as they stood then: the linked
+-- one had another level, none was pending or unlinked, so that of so many code words all others were free, and this was why.
+pub record IsRefusedOver (test : Bool) (program : Program) (code_words : ℕ) (versions : List VersionState) (symbol level : ℕ) (cause : JobRefusal) : Type 0 where
+  pub shelf : Shelf
+  pub still : AreStill shelf.versions.items versions
+  pub other : HasOtherLevel shelf symbol level
+  pub none_pending : NonePending shelf.versions.items
+  pub none_unlinked : NoneUnlinked shelf.versions.items
+  pub space : HasSpace code_words shelf
+  pub caused : IsJobCause test shelf program symbol level cause
+
+-- No job more was refused, or this one: the symbol hasn't its level, and where all of so many harts were gone before, that is why.
+abbrev pub MayShow : Book → ℕ → Bool → Program → ℕ → Shelf → List RefusedJob → List RefusedJob → ℕ → ℕ → Type 0
+MayShow book harts test program code_words shelf before after symbol level =
+    (after ≡ before)
+    ⊎ ((job : RefusedJob) × (after ≡ before ++ job ∷ []) × (job.symbol ≡ symbol) × (job.level ≡ level) × HasOtherLevel shelf symbol level
+    × (AllGone harts book → IsRefusedOver test program code_words shelf.versions.items symbol level job.cause))
+
+-- The job of giving its symbol the level that is wanted was refused: the symbol hasn't it, and where all of so many harts were gone before, that is why.
+pub record IsShown (book : Book) (harts : ℕ) (test : ℕ → ℕ → Bool) (program : Program) (code_words : ℕ) (wanted : ℕ → ℕ) (shelf : Shelf) (job : RefusedJob) : Type 0 where
+  pub level : job.level ≡ wanted job.symbol
+  pub other : HasOtherLevel shelf job.symbol job.level
+  pub refused : AllGone harts book → IsRefusedOver (test job.symbol job.level) program code_words shelf.versions.items job.symbol job.level job.cause
+
+-- each job was so refused
+abbrev pub AreShown : Book → ℕ → (ℕ → ℕ → Bool) → Program → ℕ → (ℕ → ℕ) → Shelf → List RefusedJob → Type 0
+AreShown book harts test program code_words wanted shelf jobs = (i : ℕ) (job : RefusedJob) → At jobs i job → IsShown book harts test program code_words wanted shelf job

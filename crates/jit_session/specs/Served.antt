@@ -1,5 +1,5 @@
 -- The runs of a hart's calls: what each was served, and what it counted.
-use Rattle.std.specs.Prelude.{◌≡◌, ℕ, ◌+◌, ◌<◌, min, List, [], ◌∷◌, ◌++◌, map, sum_by}
+use Rattle.std.specs.Prelude.{◌≡◌, ℕ, ◌+◌, ◌<◌, ◌≤◌, min, List, [], ◌∷◌, ◌++◌, length, map, sum_by}
 use Rattle.ir_core.specs.Program.{Program}
 use Rattle.ir_meaning.specs.Image.{first_memory}
 use Rattle.ir_meaning.specs.Meaning.{meaning}
@@ -12,12 +12,13 @@ use Rattle.hart.specs.Calls.{EndedOver, origin_of}
 use Rattle.hart.specs.Right.{IsListedOn}
 use Rattle.code_epochs.specs.declared.parts.Item.{Item}
 use Rattle.code_epochs.specs.Passes.{items_of}
-use Rattle.code_epochs.specs.Sound.{At}
+use Rattle.code_epochs.specs.Sound.{At, Backed as BackedBy}
+use Rattle.code_epochs.specs.declared.parts.Book.{Book}
 use Rattle.entry_counts.specs.Tally.{times}
 use Rattle.entry_counts.specs.declared.seat.CountSeat.{CountSeat}
 use Rattle.redirect_cells.specs.declared.hart_seat.HartSeat.{HartSeat}
 use Rattle.redirect_cells.specs.Kept.{part_of}
-use Rattle.jit_session.specs.Runs.{place_of}
+use Rattle.jit_session.specs.Runs.{Each, place_of}
 
 -- a call's run on a hart: the pass of cells and code words that it was served, its answer, and the symbols that it counted
 pub record CallRun : Type 0 where
@@ -67,3 +68,13 @@ pub record HasServed (program : Program) (calls : List ListedCall) (harts hart :
   pub answers : ends ≡ answers_of runs
   pub passes : (part_of s'.seat.me.0).ended ≡ (part_of s.seat.me.0).ended ++ passes_of runs
   pub own : (k : ℕ) → k < c.counts.now.symbols → times k c'.seat.me.0.own ≡ min (times k c.seat.me.0.own + counted_in runs k) 144115188075855872
+
+-- What one of so many harts was served by a book of versions: each of its calls has a run, whose pass these versions back. The answers to
+-- these calls are those of the runs, and the hart's row is what the runs counted of each symbol, up to 2^57.
+pub record IsServedBy (program : Program) (code_words : ℕ) (book : Book) (calls : List ListedCall) (answers : List Ended) (harts hart : ℕ) (row : List ℕ) : Type 0 where
+  pub runs : List CallRun
+  pub of_calls : AreRunsOf program code_words calls harts hart runs
+  pub whole : length calls ≤ place_of harts hart (length runs)
+  pub backed : (i : ℕ) (r : CallRun) → At runs i r → BackedBy (meaning program) code_words book r.pass
+  pub answered : (i : ℕ) (r : CallRun) → At runs i r → At answers (place_of harts hart i) r.answer
+  pub counted : Each (λ k n. n ≡ min (counted_in runs k) 144115188075855872) row

@@ -1,15 +1,21 @@
 -- What is left of a session's harts.
-use Rattle.std.specs.Prelude.{◌≡◌, ℕ, ◌≤◌, List, [], ◌∷◌, map, length, slice_index, sum_by, vec_capacity}
+use Rattle.std.specs.Prelude.{◌≡◌, ℕ, ◌<◌, ◌≤◌, List, [], ◌∷◌, map, length, slice_index, sum_by, vec_capacity}
 use Rattle.ir_core.specs.Program.{Program}
+use Rattle.ir_meaning.specs.declared.calls.Ended.{Ended}
 use Rattle.ir_meaning.specs.declared.calls.ListedCall.{ListedCall}
+use Rattle.code_epochs.specs.Sound.{At}
 use Rattle.entry_counts.specs.declared.counts.Counts.{Counts}
 use Rattle.entry_counts.specs.declared.seat.CountSeat.{CountSeat}
 use Rattle.entry_counts.specs.Tally.{times}
 use Rattle.redirect_cells.specs.declared.hart_seat.HartSeat.{HartSeat}
 use Rattle.redirect_cells.specs.Kept.{word_in}
 use Rattle.jit_session.specs.declared.runner.Runner.{Runner}
-use Rattle.jit_session.specs.Runs.{Each}
+use Rattle.jit_session.specs.Runs.{Each, place_of}
 use Rattle.jit_session.specs.Entries.{calls_of, AllEnd, entered_in}
+
+-- of so many calls, those of one of so many harts have these answers of the hart among all answers, each in its call's place
+abbrev pub AreAnswersOf : ℕ → ℕ → ℕ → List Ended → List Ended → Type 0
+AreAnswersOf calls harts hart answers ends = (i : ℕ) (e : Ended) → At ends i e → place_of harts hart i < calls → At answers (place_of harts hart i) e
 
 -- how often the seat counted each of so many symbols, in order
 abbrev pub IsRow : ℕ → CountSeat → List ℕ → Type 0

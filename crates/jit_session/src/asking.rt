@@ -110,11 +110,12 @@ pub fn new_asking<'a, P: ReoptPolicy>(
     requires these { IsPassOf queue.now.queue opening.pass }
     requires workers { workers ≤ 8 }
     requires symbols { counts.counts.now.symbols ≡ symbols }
-    ensures { IfOk result (λ r. (r.0.policy ≡ policy) × (r.0.counts ≡ counts.entry)) }
+    ensures asking { IfOk result (λ r. (r.0.policy ≡ policy) × (r.0.counts ≡ counts.entry)) }
+    ensures seats { IfOk result (λ r. length r.1.items ≡ workers) }
 {
     let mut seats = queue.seats(alloc, opening, workers + 1)?;
     match seats.pop() {
         Some(seat) => Ok((Asking::new(alloc, policy, counts, seat, symbols)?, seats)),
-        None => Err(NoMemory),
+        None => unreachable!(),
     }
 }

@@ -23,7 +23,7 @@ pub use locked::{Locked, Naming};
 pub use opening::new_runners;
 pub use outcome::{gather_answers, part};
 pub use parts::{Part, new_parts, part_again, run_parts};
-pub use runner::{Runner, run_all};
+pub use runner::Runner;
 pub use session::{Setup, run};
 pub use settling::settle_one;
 pub use worker::Worker;

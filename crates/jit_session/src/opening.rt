@@ -77,13 +77,13 @@ pub fn new_runners<'a, G>(
     let mut runners = Vec::with_capacity(alloc, harts).map_err(|_| NoMemory)?;
     for seat in seats {
         let Some(counts) = left.pop() else {
-            return Err(NoMemory);
+            unreachable!()
         };
         let runner = new_runner(alloc, checked, seat, counts, gate, harts, calls)?;
         runners.push_reserved(runner);
     }
     match left.pop() {
         Some(all) => Ok((runners, all)),
-        None => Err(NoMemory),
+        None => unreachable!(),
     }
 }

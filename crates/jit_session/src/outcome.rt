@@ -4,7 +4,7 @@ ghost use Rattle.ir_core.specs.Program.{Program};
 ghost use Rattle.entry_counts.specs.Tally.{times};
 ghost use Rattle.jit_session.specs.Runs.{AllRight, Each, HasAnswered, place_of};
 ghost use Rattle.jit_session.specs.OpenedHarts.{parts_of};
-ghost use Rattle.jit_session.specs.Settling.{IsRow, AreRows, CanPart, column, seats_of};
+ghost use Rattle.jit_session.specs.Settling.{IsRow, AreRows, AreAnswersOf, CanPart, column, seats_of};
 
 use crate::runner::Runner;
 use entry_counts::CountSeat;
@@ -18,7 +18,8 @@ pub fn gather_answers<G>(runners: &[Runner<'_, G>], calls: &[ListedCall], answer
     requires whole { Each (λ h r. length calls.now ≤ place_of (length runners.now) h (length r.answers.items)) runners.now }
     requires none { answers.old.items ≡ [] }
     requires room { length calls.now ≤ vec_capacity answers.old }
-    ensures { (program : Program) → Each (λ h r. HasAnswered program calls.now (length runners.now) h r.answers.items) runners.now → AllRight program calls.now answers.new.items }
+    ensures right { (program : Program) → Each (λ h r. HasAnswered program calls.now (length runners.now) h r.answers.items) runners.now → AllRight program calls.now answers.new.items }
+    ensures same { Each (λ h r. AreAnswersOf (length calls.now) (length runners.now) h answers.new.items r.answers.items) runners.now }
 {
     let harts = runners.len();
     for place in 0..calls.len() {

@@ -66,17 +66,18 @@ fn add_workers<'a, G, M: Drop, P: Drop>(
     seats: Vec<QueueSeat<'a>>,
     makers: Vec<M>,
     asking: Asking<'a, P>,
-) -> Result<Option<Asking<'a, P>>, NoMemory>
+) -> Option<Asking<'a, P>>
     requires none { asking_in parts.old.items ≡ None }
     requires room { length parts.old.items + length makers.items ≤ vec_capacity parts.old }
+    requires seats { length makers.items ≤ length seats.items }
     ensures harts { harts_of parts.new.items ≡ harts_of parts.old.items }
-    ensures asking { IfOk result (λ o. or_else (asking_in parts.new.items) o ≡ Some asking.entry) }
+    ensures asking { or_else (asking_in parts.new.items) result ≡ Some asking.entry }
 {
     let mut left = seats;
     let mut idle = Some(asking);
     for maker in makers {
         let Some(jobs) = left.pop() else {
-            return Err(NoMemory);
+            unreachable!()
         };
         parts.push_reserved(Part::Works(Worker {
             jobs,
@@ -85,10 +86,11 @@ fn add_workers<'a, G, M: Drop, P: Drop>(
         }));
         idle = None;
     }
-    Ok(idle)
+    idle
 }
 
-/// The harts, and a worker for each maker, of which the first asks; and what asks, if there is no worker.
+/// The harts, and a worker for each maker, with one of at least as many seats of the queue, of which the first asks; and what asks, if
+/// there is no worker.
 pub fn new_parts<'a, G, M: Drop, P: Drop>(
     alloc: Global,
     runners: Vec<Runner<'a, G>>,
@@ -97,11 +99,12 @@ pub fn new_parts<'a, G, M: Drop, P: Drop>(
     asking: Asking<'a, P>,
 ) -> Result<(Vec<Part<'a, G, M, P>>, Option<Asking<'a, P>>), NoMemory>
     requires few { length runners.items + length makers.items < 18446744073709551616 }
+    requires seats { length makers.items ≤ length seats.items }
     ensures harts { IfOk result (λ r. harts_of r.0.items ≡ runners.entry.items) }
     ensures asking { IfOk result (λ r. or_else (asking_in r.0.items) r.1 ≡ Some asking.entry) }
 {
     let mut parts = hart_parts(alloc, runners, makers.len())?;
-    let idle = add_workers(&mut parts, seats, makers, asking)?;
+    let idle = add_workers(&mut parts, seats, makers, asking);
     Ok((parts, idle))
 }
 

@@ -1,5 +1,4 @@
 //! A hart of a session, and its calls.
-ghost use Rattle.std.specs.Prelude.{◌≡◌, ◌<◌, ℕ, length, slice_index_or, All};
 ghost use Rattle.ir_core.specs.Program.{Program};
 ghost use Rattle.ir_meaning.specs.Right.{Right};
 ghost use Rattle.jit_session.specs.Runs.{IsReady, IsSameSeat, IsSameCounts};
@@ -10,12 +9,6 @@ use crate::bench::Bench;
 use crate::gate::Gate;
 use hart::{Hart, Image};
 use ir_meaning::calls::{Ended, ListedCall};
-use ir_verify::checked::Checked;
-use std::thread;
-use std::thread::Threads;
-
-/// The most harts and workers of a session.
-const MOST_THREADS: usize = 24;
 
 /// A hart with what serves it, and with room for its answers and for a row of its counts.
 #[derive(Drop)]
@@ -57,32 +50,4 @@ impl<G: Gate> Runner<'_, G> {
             place += harts as usize;
         }
     }
-}
-
-/// Runs the calls of each hart on a thread of its own.
-pub fn run_all<R: Threads + Sync, G: Gate + Sync>(
-    rt: &R,
-    runners: &mut [Runner<'_, G>],
-    image: &Image,
-    checked: &Checked,
-    calls: &[ListedCall],
-    harts: u32,
-)
-    requires work { IsWork checked.now image.now calls.now harts }
-    requires ready { All (CanRun checked.now calls.now harts) runners.old }
-    ensures count { length runners.new ≡ length runners.old }
-    ensures run { (i : ℕ) (d : _) → i < length runners.old → HasRun checked.now calls.now harts (slice_index_or runners.old i d) (slice_index_or runners.new i d) }
-{
-    let _ = checked;
-    thread::for_each_mut(
-        rt,
-        runners,
-        MOST_THREADS,
-        &|_, runner: &mut Runner<'_, G>|
-            requires { (program : Program) × IsWork program image.now calls.now harts × CanRun program calls.now harts runner.old }
-            ensures { (program : Program) → IsWork program image.entry.now calls.entry.now harts → CanRun program calls.entry.now harts runner.old → HasRun program calls.entry.now harts runner.old runner.new }
-        {
-            runner.run(image, calls, harts);
-        },
-    );
 }

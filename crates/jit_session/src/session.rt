@@ -1,6 +1,5 @@
 //! A session from its versions to its answers.
 ghost use Rattle.std.specs.Prelude.{◌≡◌, ◌+◌, ◌≤◌, [], ◌∷◌, ◌++◌, length, sum_by, Some, IfOk, IfErr, OnOk, All};
-ghost use Rattle.ir_core.specs.Program.{Program};
 ghost use Rattle.crossbeam_queue.specs.Passes.{IsPassOf};
 ghost use Rattle.entry_counts.specs.Seats.{IsNewSeat};
 ghost use Rattle.redirect_cells.specs.Opened.{AreNewSeats, words_of};
@@ -78,7 +77,7 @@ fn settle<'a, G, M: Maker, P: ReoptPolicy>(
     reserve: Reserve<'a>,
     calls: &[ListedCall],
 ) -> Settled
-    requires done { (program : Program) × Each (IsDone program table.now all.counts.now calls.now table.now.harts) harts.items }
+    requires done { Each (IsDone checked.now table.now all.counts.now calls.now table.now.harts) harts.items }
     requires count { length harts.items ≡ table.now.harts }
     requires all { (all.seat.me.0.own ≡ []) × (all.seat.me.0.joined ≡ []) }
     requires symbols { all.counts.now.symbols ≡ table.now.functions }
@@ -87,7 +86,7 @@ fn settle<'a, G, M: Maker, P: ReoptPolicy>(
     requires program { table.now.table.shared.key.module.value ≡ checked.now }
     requires few { HasFew keeper.desk.shelf }
     requires reserve { IsReserve table.now.harts (length calls.now) table.now.functions reserve }
-    ensures { (program : Program) → Each (IsDone program table.now all.entry.counts.now calls.now table.now.harts) harts.entry.items → IsSettled program calls.now table.now.harts table.now.functions (P.marks policy) (M.may_crowd maker checked.now) result }
+    ensures { IsSettled checked.now calls.now table.now.harts table.now.functions table.now.code_words (P.marks policy) (M.may_crowd maker checked.now) result }
 {
     let symbols = table.symbols();
     let Reserve {
@@ -177,7 +176,7 @@ fn run_within<'x, R: Threads + Wait + Sync, M: Maker + Send, P: ReoptPolicy + Se
     requires keeper { keeper.desk.seat.table.now ≡ table.now }
     requires few { HasFew keeper.desk.shelf }
     requires workers { length makers.items ≤ 8 }
-    ensures { IfOk result (IsSettled checked.now calls.now table.now.harts table.now.functions (P.marks policy) (M.may_crowd maker checked.now)) }
+    ensures { IfOk result (IsSettled checked.now calls.now table.now.harts table.now.functions table.now.code_words (P.marks policy) (M.may_crowd maker checked.now)) }
 {
     let symbols = table.symbols();
     let harts = seats.len() as u32;
@@ -245,7 +244,7 @@ fn run_over<R: Threads + Wait + Sync, M: Maker + Send, P: ReoptPolicy + Send, G:
     requires keeper { keeper.desk.seat.table.now ≡ table.now }
     requires few { HasFew keeper.desk.shelf }
     requires workers { length makers.items ≤ 8 }
-    ensures { IfOk result (IsSettled checked.now calls.now table.now.harts table.now.functions (P.marks policy) (M.may_crowd maker checked.now)) }
+    ensures { IfOk result (IsSettled checked.now calls.now table.now.harts table.now.functions table.now.code_words (P.marks policy) (M.may_crowd maker checked.now)) }
 {
     let (shared, opening, first) = open_shared(alloc, table.symbols())?;
     run_within(
@@ -275,7 +274,7 @@ pub fn run<R: Threads + Wait + Sync, M: Maker + Send, P: ReoptPolicy + Send, G: 
     requires makers { length makers.items ≡ setup.workers + 1 }
     requires code { (1 ≤ setup.code_words) × (setup.code_words ≤ 4194304) }
     requires versions { AreFirst checked.now versions.items }
-    ensures settled { IfOk result (λ s. (front : _) (last : _) → makers.items ≡ front ++ last ∷ [] → IsSettled checked.now calls.now setup.harts (length checked.now.module_.functions) (P.marks policy) (M.may_crowd last checked.now) s) }
+    ensures settled { IfOk result (λ s. (front : _) (last : _) → makers.items ≡ front ++ last ∷ [] → IsSettled checked.now calls.now setup.harts (length checked.now.module_.functions) setup.code_words (P.marks policy) (M.may_crowd last checked.now) s) }
     ensures fits { OnOk result (words_of versions.items ≤ setup.code_words) }
     ensures cause { IfErr result (IsRefusal setup.code_words versions.items) }
 {

@@ -5,7 +5,7 @@ ghost use Rattle.entry_counts.specs.Tally.{times};
 ghost use Rattle.redirect_cells.specs.Kept.{book_of};
 ghost use Rattle.redirect_cells.specs.Keeping.{IsSameShelf};
 ghost use Rattle.reopt_policy.specs.Marks.{level_for};
-ghost use Rattle.jit_session.specs.Levels.{IsForRoom, IsSameCause, IsSameMake, IsRaised, IsRefusedJob, IsLevelled, IsSettledSymbol, IsSameTally, AreRefused};
+ghost use Rattle.jit_session.specs.Levels.{IsForRoom, IsSameCause, IsSameMake, IsRaised, IsRefusedJob, IsLevelled, IsSettledSymbol, IsSameTally, AreRefused, HasOtherLevel, MayShow, AreShown};
 
 use code_epochs::PublishRefusal;
 use entry_counts::CountSeat;
@@ -55,6 +55,7 @@ fn publish_at(
     requires few { length keeper.old.desk.shelf.versions.items < 1048576 }
     ensures table { keeper.new.desk.seat.table ≡ keeper.old.desk.seat.table }
     ensures gone { (book_of keeper.new.desk.seat.seat.me.0).gone ≡ (book_of keeper.old.desk.seat.seat.me.0).gone }
+    ensures joined { (book_of keeper.new.desk.seat.seat.me.0).joined ≡ (book_of keeper.old.desk.seat.seat.me.0).joined }
     ensures raised { MatchOption result (IsRaised keeper.old.desk.shelf keeper.new.desk.shelf symbol level) (IsRefusedJob false keeper.old.desk.shelf checked.now symbol level) }
     ensures same { IfSome result (λ _. IsSameShelf keeper.old.desk.shelf keeper.new.desk.shelf) }
 {
@@ -100,8 +101,10 @@ fn settle_at<M: Maker>(
     requires few { length keeper.old.desk.shelf.versions.items < 1048576 }
     ensures table { keeper.new.desk.seat.table ≡ keeper.old.desk.seat.table }
     ensures gone { (book_of keeper.new.desk.seat.seat.me.0).gone ≡ (book_of keeper.old.desk.seat.seat.me.0).gone }
+    ensures joined { (book_of keeper.new.desk.seat.seat.me.0).joined ≡ (book_of keeper.old.desk.seat.seat.me.0).joined }
     ensures raised { MatchOption result (IsRaised keeper.old.desk.shelf keeper.new.desk.shelf symbol level) (IsRefusedJob (M.may_crowd maker.old checked.now symbol level) keeper.old.desk.shelf checked.now symbol level) }
     ensures same { IfSome result (λ _. IsSameShelf keeper.old.desk.shelf keeper.new.desk.shelf) }
+    ensures other { IfSome result (λ _. HasOtherLevel keeper.old.desk.shelf symbol level) }
     ensures test { M.may_crowd maker.new ≡ M.may_crowd maker.old }
 {
     if keeper.level(symbol) == level {
@@ -128,8 +131,10 @@ pub fn settle_one<M: Maker, P: ReoptPolicy>(
     requires few { length keeper.old.desk.shelf.versions.items < 1048576 }
     ensures table { keeper.new.desk.seat.table ≡ keeper.old.desk.seat.table }
     ensures gone { (book_of keeper.new.desk.seat.seat.me.0).gone ≡ (book_of keeper.old.desk.seat.seat.me.0).gone }
+    ensures joined { (book_of keeper.new.desk.seat.seat.me.0).joined ≡ (book_of keeper.old.desk.seat.seat.me.0).joined }
     ensures raised { MatchOption result (IsRaised keeper.old.desk.shelf keeper.new.desk.shelf symbol (level_for (P.marks policy.old) entries)) (IsRefusedJob (M.may_crowd maker.old checked.now symbol (level_for (P.marks policy.old) entries)) keeper.old.desk.shelf checked.now symbol (level_for (P.marks policy.old) entries)) }
     ensures same { IfSome result (λ _. IsSameShelf keeper.old.desk.shelf keeper.new.desk.shelf) }
+    ensures other { IfSome result (λ _. HasOtherLevel keeper.old.desk.shelf symbol (level_for (P.marks policy.old) entries)) }
     ensures marks { P.marks policy.new ≡ P.marks policy.old }
     ensures test { M.may_crowd maker.new ≡ M.may_crowd maker.old }
 {
@@ -157,8 +162,10 @@ fn settle_symbol<M: Maker, P: ReoptPolicy>(
     requires room { length refused.old.items < vec_capacity refused.old }
     ensures table { keeper.new.desk.seat.table ≡ keeper.old.desk.seat.table }
     ensures gone { (book_of keeper.new.desk.seat.seat.me.0).gone ≡ (book_of keeper.old.desk.seat.seat.me.0).gone }
+    ensures joined { (book_of keeper.new.desk.seat.seat.me.0).joined ≡ (book_of keeper.old.desk.seat.seat.me.0).joined }
     ensures all { IsSameTally all.old all.new }
     ensures settled { IsSettledSymbol (M.may_crowd maker.old checked.now) keeper.old.desk.shelf keeper.new.desk.shelf refused.old.items refused.new.items symbol (level_for (P.marks policy.old) (times symbol all.old.seat.me.0.joined)) }
+    ensures shown { MayShow (book_of keeper.old.desk.seat.seat.me.0) keeper.old.desk.seat.table.now.harts (M.may_crowd maker.old checked.now symbol (level_for (P.marks policy.old) (times symbol all.old.seat.me.0.joined))) checked.now keeper.old.desk.seat.table.now.code_words keeper.new.desk.shelf refused.old.items refused.new.items symbol (level_for (P.marks policy.old) (times symbol all.old.seat.me.0.joined)) }
     ensures room { vec_capacity refused.new ≡ vec_capacity refused.old }
     ensures marks { P.marks policy.new ≡ P.marks policy.old }
     ensures test { M.may_crowd maker.new ≡ M.may_crowd maker.old }
@@ -192,9 +199,11 @@ pub(crate) fn settle_all<M: Maker, P: ReoptPolicy>(
     requires room { symbols ≤ vec_capacity refused.old }
     ensures table { keeper.new.desk.seat.table ≡ keeper.old.desk.seat.table }
     ensures gone { (book_of keeper.new.desk.seat.seat.me.0).gone ≡ (book_of keeper.old.desk.seat.seat.me.0).gone }
+    ensures joined { (book_of keeper.new.desk.seat.seat.me.0).joined ≡ (book_of keeper.old.desk.seat.seat.me.0).joined }
     ensures all { IsSameTally all.old all.new }
     ensures levels { (k : ℕ) → k < symbols → IsLevelled keeper.new.desk.shelf refused.new.items k (level_for (P.marks policy.old) (times k all.old.seat.me.0.joined)) }
     ensures refused { AreRefused (M.may_crowd maker.old checked.now) symbols refused.new.items }
+    ensures shown { AreShown (book_of keeper.old.desk.seat.seat.me.0) keeper.old.desk.seat.table.now.harts (M.may_crowd maker.old checked.now) checked.now keeper.old.desk.seat.table.now.code_words (λ k. level_for (P.marks policy.old) (times k all.old.seat.me.0.joined)) keeper.new.desk.shelf refused.new.items }
 {
     for symbol in 0..symbols {
         settle_symbol(alloc, checked, symbol, all, keeper, policy, maker, refused);

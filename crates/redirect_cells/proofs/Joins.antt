@@ -4,15 +4,15 @@ use Rattle.atomic_table.specs.Table.{State, Me, keeps, Allows, Joins}
 use Rattle.atomic_table.proofs.Lists.{set_again}
 use Rattle.code_epochs.specs.declared.parts.HartPart.{HartPart}
 use Rattle.code_epochs.specs.declared.parts.Book.{Book}
-use Rattle.code_epochs.specs.Sound.{At, Whole, Backed}
+use Rattle.code_epochs.specs.Sound.{At, Whole, Backed, AreMade}
 use Rattle.code_epochs.specs.Steps.{book_joined, hart_joined}
 use Rattle.code_epochs.proofs.Lists.{at_set, at_snoc}
-use Rattle.code_epochs.proofs.Seats.{join_sound, joined_backed}
+use Rattle.code_epochs.proofs.Seats.{join_sound, joined_backed, are_made}
 use Rattle.redirect_cells.specs.declared.view.Plan.{Plan}
 use Rattle.redirect_cells.specs.declared.view.Role.{Role}
 use Rattle.redirect_cells.specs.declared.view.Role.TheVariants.{Hart, Keeper, Spent}
 use Rattle.redirect_cells.specs.declared.view.View.{View}
-use Rattle.redirect_cells.specs.Kept.{meaning_of, Fits, FitsView, Kept, is_keeper, IsKeeper, is_hart, word_in, book_of, joined_role, joined_view, spent_view, JoinedBacked}
+use Rattle.redirect_cells.specs.Kept.{meaning_of, Fits, FitsView, Kept, is_keeper, IsKeeper, is_hart, word_in, book_of, joined_role, joined_view, spent_view, keeper_view, JoinedBacked}
 use Rattle.redirect_cells.proofs.Words.{set_same}
 use Rattle.redirect_cells.proofs.Stores.{keeper_is}
 
@@ -79,7 +79,7 @@ module _ {S : Type 0} (plan : Plan) where
   pub joins_hart : (id : ℕ) (v : View) (other : ℕ) (w : View) → IsKeeper v → is_hart w.role ≡ true → word_in w.role ≡ 0 → Joins Rule id v other w (joined_view v w) spent_view
   joins_hart id v other w = joins_in id v other w w.role refl
 
-  pub learns : (slots id : ℕ) (me : Me S View) → me.1 ≡ [] → me.0.plan ≡ plan → IsKeeper me.0 → Allows Rule slots id me 0 (λ n. n) (λ n w. (w.0 ≡ me.0) × JoinedBacked me.0 × (w.1 ≡ []))
+  pub learns : (slots id : ℕ) (me : Me S View) → me.1 ≡ [] → me.0.plan ≡ plan → IsKeeper me.0 → Allows Rule slots id me 0 (λ n. n) (λ n w. (w.0 ≡ me.0) × JoinedBacked me.0 × AreMade (meaning_of me.0.plan) (book_of me.0) × (w.1 ≡ []))
   learns slots id me empty is_plan keeper s k homes at fits64 =
       let x = k.whole in
       let book = book_of me.0 in
@@ -92,5 +92,9 @@ module _ {S : Type 0} (plan : Plan) where
         keeps,
         tt,
         subst (λ (y : List ℕ × List View). Kept plan y.0 y.1) (λ j. (sym (set_same s.words 0) j, sym (set_again s.views id me.0 at) j)) k,
-        (refl, backed, empty),
+        (refl, backed, subst (λ (y : Plan × Book). AreMade (meaning_of y.0) y.1) (λ j. (sym is_plan j, sym mine.1 j)) (are_made (meaning_of plan) x k.sound), empty),
       )
+
+-- the same of a view of the same plan that has what this keeper knows
+pub viewed_backed : (v old : View) → v.plan ≡ old.plan → JoinedBacked v → JoinedBacked (keeper_view old (book_of v))
+viewed_backed v old plan backed = λ i p was e pass here. subst (λ (q : Plan). Backed (meaning_of q) q.code_words (book_of v) pass) plan (backed i p was e pass here)

@@ -172,6 +172,7 @@ looked_none b number v tag passed at is = record {
   rest = λ h le p. p;
   longer = (omega arith, λ q l here. here);
   gone = refl;
+  joined = refl;
   truth = λ q l at' le. absurd (let low = at_below b.looks q l at' in omega arith);
 }
 
@@ -201,6 +202,7 @@ looked_more old b new number v tag passed k low at s look =
       rest = λ h le. s.rest h (omega arith);
       longer = s.longer;
       gone = s.gone;
+      joined = s.joined;
       truth = s.truth;
     })
     (λ t. let found = t.0 in
@@ -227,6 +229,7 @@ looked_more old b new number v tag passed k low at s look =
       rest = λ h le p. s.rest h (omega arith) (back h (λ e. omega arith) p);
       longer = ((let n = more.0 in let o = s.longer.0 in omega arith), λ q l z. more.1 q l (s.longer.1 q l z));
       gone = s.gone;
+      joined = s.joined;
       truth = λ q l at' le has. ⊎_elim (λ z. s.truth q l z le has) (λ z. subst (λ (y : Look). y.found ≡ 0) z.1 (t.3 (subst (λ (g : List ℕ). Has g k) (sym s.gone) (subst (λ (y : Look). Has old.gone y.hart) (sym z.1) has)))) (at_snoc b.looks it l q at');
     })
     (look u tag s.marked here refl)

@@ -49,6 +49,7 @@ settled_same b s harts number v at free = record {
   current = refl;
   longer = (omega arith, λ q l z. z);
   gone = refl;
+  joined = refl;
   truth = λ q l here le. absurd (let low = at_below b.looks q l here in omega arith);
 }
 
@@ -74,14 +75,15 @@ settled_behind old new was is harts number v tag passed at pending s items space
       current = current;
       longer = s.longer;
       gone = s.gone;
+      joined = s.joined;
       truth = s.truth;
     }
 
 -- a version that each hart has passed is given up
 pub settled_gone : (old mid new : Book) (was is : Shelf) (harts number : ℕ) (v : VersionState) (tag passed : ℕ) → At was.versions.items number v → v.status ≡ Pending tag passed → (s : LookedAt old mid number v tag passed harts)
-    → new.looks ≡ mid.looks → new.gone ≡ mid.gone → is.versions.items ≡ set was.versions.items number (with_status v GivenUp) → count_free is.space.ranges ≡ count_free was.space.ranges + (v.words + 1) → is.space.size ≡ was.space.size → is.current ≡ was.current
+    → new.looks ≡ mid.looks → new.gone ≡ mid.gone → new.joined ≡ mid.joined → is.versions.items ≡ set was.versions.items number (with_status v GivenUp) → count_free is.space.ranges ≡ count_free was.space.ranges + (v.words + 1) → is.space.size ≡ was.space.size → is.current ≡ was.current
     → ((h : ℕ) → h < harts → HasPassed s.marked h) → Settled old new was is harts number 1
-settled_gone old mid new was is harts number v tag passed at pending s looks gone items free size current all =
+settled_gone old mid new was is harts number v tag passed at pending s looks gone joined items free size current all =
     let vs = was.versions.items in
     let w = with_status v GivenUp in
     let past : (h : ℕ) → h < harts → HasGonePast new.looks (length old.looks) number h tag passed = λ h low. subst (λ (l : List Look). HasGonePast l (length old.looks) number h tag passed) (sym looks) (⊎_elim (λ z. z.1) (λ z. absurd (z.0 (all h low))) (s.harts h low)) in
@@ -99,6 +101,7 @@ settled_gone old mid new was is harts number v tag passed at pending s looks gon
       current = current;
       longer = subst (λ (l : List Look). IsLonger old.looks l) (sym looks) s.longer;
       gone = gone ∙ s.gone;
+      joined = joined ∙ s.joined;
       truth = subst (λ (l : List Look). AreTrue old.gone l (length old.looks)) (sym looks) s.truth;
     }
 
@@ -125,6 +128,7 @@ collected_none b s harts = record {
   current = refl;
   longer = (omega arith, λ q l z. z);
   gone = refl;
+  joined = refl;
   truth = λ q l here le. absurd (let low = at_below b.looks q l here in omega arith);
 }
 
@@ -156,6 +160,7 @@ collected_more before mid after old was is harts n given more low c s =
       current = s.current ∙ c.current;
       longer = ((let a = s.longer.0 in omega arith), λ q l z. s.longer.1 q l (c.longer.1 q l z));
       gone = s.gone ∙ c.gone;
+      joined = s.joined ∙ c.joined;
       truth = λ q l at le has. dite (dec_le (length mid.looks) q)
           (λ d. s.truth q l at d (subst (λ (g : List ℕ). Has g l.hart) (sym c.gone) has))
           (λ d. let m = at_some mid.looks q (omega arith) in

@@ -2,16 +2,17 @@
 use Rattle.std.proofs.Common.{◌≡◌, ℕ, suc, ◌+◌, ◌<◌, ◌≢◌, List, [], ◌∷◌, ◌++◌, length, get_or, set, true, false, sym, refl, ap, ◌∙◌, subst, ⊎_elim, arith, length-set}
 use Rattle.atomic_table.specs.Table.{State, Me, keeps, Allows}
 use Rattle.code_epochs.specs.declared.parts.HartPart.{HartPart}
-use Rattle.code_epochs.specs.Sound.{At, Whole, Sound, count_left}
+use Rattle.code_epochs.specs.Sound.{At, Whole, Sound, Backed, count_left}
 use Rattle.code_epochs.specs.Steps.{with_hart, with_hart_word, loaded_part, ended_part}
 use Rattle.code_epochs.proofs.Lists.{at_set, at_below, set_here, set_else}
 use Rattle.code_epochs.proofs.Idle.{load_epoch_sound, announce_sound, go_idle_sound, pass_backed}
+use Rattle.code_epochs.proofs.Seats.{holds_staying}
 use Rattle.redirect_cells.specs.declared.view.Plan.{Plan}
 use Rattle.redirect_cells.specs.declared.view.HartView.{HartView}
 use Rattle.redirect_cells.specs.declared.view.Role.{Role}
 use Rattle.redirect_cells.specs.declared.view.Role.TheVariants.{Hart, Keeper, Spent}
 use Rattle.redirect_cells.specs.declared.view.View.{View}
-use Rattle.redirect_cells.specs.Kept.{meaning_of, functions_of, layout, Fits, FitsView, Kept, part_of, part_in, Begun, IsBegun, with_part, hart_view, is_hart, number_in, word_in, turned, turned_view, loaded_epoch, announced_epoch, IsBacked, pass_ended}
+use Rattle.redirect_cells.specs.Kept.{meaning_of, functions_of, layout, Fits, FitsView, Kept, part_of, part_in, Begun, IsBegun, with_part, hart_view, is_hart, number_in, word_in, turned, turned_view, loaded_epoch, announced_epoch, IsServed, pass_ended}
 use Rattle.redirect_cells.proofs.Words.{set_same, set_front, set_back}
 use Rattle.redirect_cells.proofs.Loads.{hart_keeps}
 
@@ -123,7 +124,16 @@ module _ {S : Type 0} (plan : Plan) where
       let mine = subst (λ (r : Role). Fits x k.keeper k.seat id r) is (k.fits id me.0 at) in
       let sound = go_idle_sound (meaning_of plan) x hv.number hv.part hv.word k.sound (mine.1, mine.2, begun) in
       let backed = pass_backed (meaning_of plan) x hv.number hv.part hv.word k.sound (k.sound.harts hv.number hv.part hv.word mine.1 mine.2) in
-      let here : IsBacked (meaning_of me.0.plan) me.0.plan.code_words (part_of me.0).pass = subst (λ (z : Plan × ℕ × HartPart). IsBacked (meaning_of z.0) z.1 z.2.pass) (λ i. (sym same i, (k.code_words ∙ ap (λ (q : Plan). q.code_words) (sym same)) i, part_in (sym is i))) (x.book, backed) in
+      let served : IsServed plan hv.number hv.word hv.part = record {
+        table = x;
+        sound = k.sound;
+        code_words = k.code_words;
+        knows = mine.1;
+        announced = mine.2;
+        backed = subst (λ (n : ℕ). Backed (meaning_of plan) n x.book hv.part.pass) k.code_words backed;
+        stays = holds_staying (meaning_of plan) x hv.number hv.part hv.word k.sound mine.1 mine.2;
+      } in
+      let here : IsServed me.0.plan (number_in me.0.role) (word_in me.0.role) (part_of me.0) = subst (λ (z : Plan × Role). IsServed z.0 (number_in z.1) (word_in z.1) (part_in z.1)) (λ i. (sym same i, sym is i)) served in
       let now : turned_view me.0 (ended_part hv.part) 0 ≡ turned_view me.0 (ended_part (part_of me.0)) 0 = ap (λ (z : HartPart). turned_view me.0 (ended_part z) 0) (ap part_in (sym is)) in (
         turned_view me.0 (ended_part hv.part) 0,
         keeps,

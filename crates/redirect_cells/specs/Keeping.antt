@@ -5,7 +5,7 @@ use Rattle.code_epochs.specs.declared.state.Status.TheVariants.{Linked, Unlinked
 use Rattle.code_epochs.specs.declared.state.VersionState.{VersionState}
 use Rattle.rv_play.specs.declared.version.Version.{Version}
 use Rattle.code_epochs.specs.declared.parts.Look.{Look}
-use Rattle.code_epochs.specs.Sound.{At, Has, HasPassed}
+use Rattle.code_epochs.specs.Sound.{At, Has, HasPassed, AreMade}
 use Rattle.code_epochs.specs.Steps.{with_status, linked_of, with_look, restatus, marked_by}
 use Rattle.code_epochs.specs.declared.parts.Book.{Book}
 use Rattle.code_space.specs.Space.{count_free, HasRoom}
@@ -13,7 +13,8 @@ use Rattle.code_epochs.specs.declared.refusals.PublishRefusal.{PublishRefusal}
 use Rattle.code_epochs.specs.declared.refusals.PublishRefusal.TheVariants.{NoRoom, ManyVersions, NoMemory}
 use Rattle.code_epochs.specs.declared.shelf.Shelf.{Shelf}
 use Rattle.code_epochs.specs.Shelf.{is_linked}
-use Rattle.redirect_cells.specs.Kept.{draft_at}
+use Rattle.redirect_cells.specs.declared.view.View.{View}
+use Rattle.redirect_cells.specs.Kept.{draft_at, meaning_of, book_of, keeper_view, JoinedBacked}
 
 -- the version was published with the number n: it is the linked one of its symbol, the one that was is pending, and all others stay
 pub record Published (old new : Shelf) (version : Version) (n : ℕ) : Type 0 where
@@ -77,6 +78,7 @@ pub record LookedAt (old new : Book) (number : ℕ) (v : VersionState) (tag pass
   pub rest : (h : ℕ) → n ≤ h → HasPassed marked h → HasPassed passed h
   pub longer : IsLonger old.looks new.looks
   pub gone : new.gone ≡ old.gone
+  pub joined : new.joined ≡ old.joined
   pub truth : AreTrue old.gone new.looks (length old.looks)
 
 abbrev pub is_pending : Status → Bool
@@ -125,6 +127,7 @@ pub record Settled (old new : Book) (was is : Shelf) (harts number given : ℕ) 
   pub current : is.current ≡ was.current
   pub longer : IsLonger old.looks new.looks
   pub gone : new.gone ≡ old.gone
+  pub joined : new.joined ≡ old.joined
   pub truth : AreTrue old.gone new.looks (length old.looks)
 
 -- the versions below n were settled in order, of which so many were given up
@@ -138,6 +141,7 @@ pub record Collected (before after : Book) (old new : Shelf) (harts n given : �
   pub current : new.current ≡ old.current
   pub longer : IsLonger before.looks after.looks
   pub gone : after.gone ≡ before.gone
+  pub joined : after.joined ≡ before.joined
   pub truth : AreTrue before.gone after.looks (length before.looks)
 
 -- each of so many harts is gone
@@ -165,3 +169,26 @@ IsCurrent shelf symbol v = (n : ℕ) × At shelf.current.items symbol (n + 1) ×
 -- the same harts have seats, and the same are gone
 abbrev pub AreSameHarts : Book → Book → Type 0
 AreSameHarts old new = (new.seated ≡ old.seated) × (new.gone ≡ old.gone) × (new.joined ≡ old.joined)
+
+-- each earlier version is there still, but for its status
+abbrev pub AreStill : List VersionState → List VersionState → Type 0
+AreStill old new = (i : ℕ) (v : VersionState) → At old i v → (status : Status) × At new i (with_status v status)
+
+-- of so many code words those of the versions that aren't given up are taken, a header for each with them, and the others are free
+abbrev pub HasSpace : ℕ → Shelf → Type 0
+HasSpace code_words shelf = (shelf.space.size ≡ code_words) × (count_free shelf.space.ranges + held_words shelf.versions.items ≡ code_words)
+
+-- What a keeper comes to that closes: once its versions were collected again, it has these, each with words that are good for its symbol,
+-- and none is pending or unlinked. The ended passes of the harts that it took in are backed by them. So many code words are in use.
+pub record IsClosed (view : View) (old : Shelf) (harts used : ℕ) : Type 0 where
+  pub shelf : Shelf
+  pub book : Book
+  pub given : ℕ
+  pub collected : Collected (book_of view) book old shelf harts (length old.versions.items) given
+  pub versions : book.versions ≡ shelf.versions.items
+  pub made : AreMade (meaning_of view.plan) book
+  pub backed : JoinedBacked (keeper_view view book)
+  pub none_pending : NonePending shelf.versions.items
+  pub none_unlinked : NoneUnlinked shelf.versions.items
+  pub used_are : used ≡ held_words shelf.versions.items
+  pub fits : used ≤ view.plan.code_words

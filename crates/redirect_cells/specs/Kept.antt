@@ -12,7 +12,7 @@ use Rattle.code_epochs.specs.declared.parts.Draft.{Draft}
 use Rattle.code_epochs.specs.declared.state.VersionState.{VersionState}
 use Rattle.rv_play.specs.declared.version.Version.{Version}
 use Rattle.rv_play.specs.Good.{Good}
-use Rattle.code_epochs.specs.Sound.{At, Has, Whole, Sound, Backed, HasPassed, Stays, IsBase, Apart, start_of}
+use Rattle.code_epochs.specs.Sound.{At, Has, Whole, Sound, Backed, HoldsStaying, HasPassed, Stays, IsBase, Apart, start_of}
 use Rattle.code_epochs.specs.Steps.{with_item, address_of, with_draft, one_more, draft_of, book_swapped, loaded_part, ended_part, book_split, new_part, book_joined, restatus, with_look, marked_by}
 use Rattle.redirect_cells.specs.declared.view.Plan.{Plan}
 use Rattle.redirect_cells.specs.declared.view.Role.{Role}
@@ -207,13 +207,24 @@ loaded_epoch v found w = w ≡ hart_view v (loaded_part (part_of v) found)
 abbrev pub announced_epoch : View → View → Type 0
 announced_epoch v w = w ≡ turned_view v (part_of v) (part_of v).epoch
 
--- there are versions by which the pass is backed
-abbrev pub IsBacked : Meaning → ℕ → List Item → Type 0
-IsBacked m n pass = (book : Book) × Backed m n book pass
+-- The hart with this number, which has announced this word and knows this, in a sound state of the plan's table: its pass is backed by
+-- the table's versions, and each version that it holds is one of them and isn't given up.
+pub record IsServed (plan : Plan) (number word : ℕ) (p : HartPart) : Type 0 where
+  pub table : Whole
+  pub sound : Sound (meaning_of plan) table
+  pub code_words : length table.code ≡ plan.code_words
+  pub knows : At table.harts number p
+  pub announced : At table.announced number word
+  pub backed : Backed (meaning_of plan) plan.code_words table.book p.pass
+  pub stays : HoldsStaying table.book p.pass
 
--- the pass has ended, and it is backed
+-- some hart that was so served had this pass
+abbrev pub WasServed : Plan → List Item → Type 0
+WasServed plan pass = (number : ℕ) × (word : ℕ) × (p : HartPart) × (p.pass ≡ pass) × IsServed plan number word p
+
+-- the pass has ended, and the hart was served until then
 abbrev pub pass_ended : View → View → Type 0
-pass_ended v w = (w ≡ turned_view v (ended_part (part_of v)) 0) × IsBacked (meaning_of v.plan) v.plan.code_words (part_of v).pass
+pass_ended v w = (w ≡ turned_view v (ended_part (part_of v)) 0) × IsServed v.plan (number_in v.role) (word_in v.role) (part_of v)
 
 -- the sizes of a plan that a table may have
 abbrev pub IsPlan : Plan → Type 0

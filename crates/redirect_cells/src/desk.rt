@@ -3,7 +3,7 @@ ghost use Rattle.std.specs.Prelude.{◌≡◌, ◌≢◌, ◌⊎◌, ◌+◌, �
 ghost use Rattle.code_epochs.specs.declared.state.Status.TheVariants.{Linked, Unlinked, Pending, GivenUp};
 ghost use Rattle.code_epochs.specs.declared.state.VersionState.{VersionState};
 ghost use Rattle.rv_play.specs.Good.{Good};
-ghost use Rattle.code_epochs.specs.Sound.{At, HasPassed, start_of};
+ghost use Rattle.code_epochs.specs.Sound.{At, HasPassed, AreMade, start_of};
 ghost use Rattle.code_epochs.specs.Steps.{unlinked, linked_of, with_status, restatus};
 ghost use Rattle.code_space.specs.Space.{HasRoom, IsFree, count_free};
 ghost use Rattle.code_epochs.specs.Shelf.{NoneFree, IsApart, count_staying};
@@ -274,5 +274,15 @@ impl<'a> Desk<'a> {
         ensures backed { JoinedBacked self.new.seat.seat.me.0 }
     {
         self.seat.join(seat);
+    }
+
+    /// Learns that the words of each version are good, and that the versions back the ended passes of all seats that were taken in.
+    pub fn learn(&mut self)
+        ensures table { self.new.seat.table ≡ self.old.seat.table }
+        ensures same { (self.new.shelf ≡ self.old.shelf) × (self.new.seat.seat.me.0 ≡ self.old.seat.seat.me.0) }
+        ensures backed { JoinedBacked self.old.seat.seat.me.0 }
+        ensures made { AreMade (meaning_of self.old.seat.seat.me.0.plan) (book_of self.old.seat.seat.me.0) }
+    {
+        self.seat.learn();
     }
 }

@@ -4,7 +4,7 @@ ghost use Rattle.code_epochs.specs.Steps.{with_item, ended_part};
 ghost use Rattle.code_epochs.specs.declared.parts.Item.TheVariants.{Held, Saw};
 ghost use Rattle.std.specs.Coded.{Coded-set};
 ghost use Rattle.redirect_cells.specs.Plans.{plan_code};
-ghost use Rattle.redirect_cells.specs.Kept.{meaning_of, IsAddress, IsBegun, IsBacked, is_hart, number_in, word_in, part_of};
+ghost use Rattle.redirect_cells.specs.Kept.{IsAddress, IsBegun, IsServed, is_hart, number_in, word_in, part_of};
 
 use crate::plays::{Announce, GoIdle, LoadCell, LoadEpoch, LoadWord};
 use crate::table::CodeTable;
@@ -103,14 +103,14 @@ impl HartSeat<'_> {
         shared.store::<Announce>(&mut self.seat, word, epoch);
     }
 
-    /// Ends the pass, which is backed.
+    /// Ends the pass. Until then the hart was served: the table's versions back its pass, and none that it holds is given up.
     pub fn end(&mut self)
         requires begun { IsBegun self.old.seat.me.0 }
         ensures table { self.new.table ≡ self.old.table }
         ensures number { self.new.number ≡ self.old.number }
         ensures idle { word_in self.new.seat.me.0.role ≡ 0 }
         ensures ended { part_of self.new.seat.me.0 ≡ ended_part (part_of self.old.seat.me.0) }
-        ensures backed { IsBacked (meaning_of self.old.table.now.table.shared.key) self.old.table.now.code_words (part_of self.old.seat.me.0).pass }
+        ensures served { IsServed self.old.table.now.table.shared.key (number_in self.old.seat.me.0.role) (word_in self.old.seat.me.0.role) (part_of self.old.seat.me.0) }
     {
         let word = self.table.hart_place(self.number);
         self.table

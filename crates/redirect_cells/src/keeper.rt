@@ -1,10 +1,9 @@
 //! The keeper, which publishes versions and gives them up.
 ghost use Rattle.std.specs.Prelude.{◌≡◌, ◌+◌, ◌<◌, ◌≤◌, ◌++◌, length, IfOk, OnOk, IfErr, ℕ, List, All, map};
 ghost use Rattle.code_epochs.specs.declared.state.VersionState.{VersionState};
-ghost use Rattle.code_epochs.specs.declared.parts.Book.{Book};
+ghost use Rattle.code_epochs.specs.Sound.{AreMade};
 ghost use Rattle.rv_play.specs.Good.{Good};
 ghost use Rattle.code_space.specs.Space.{count_free};
-ghost use Rattle.code_epochs.specs.declared.shelf.Shelf.{Shelf};
 ghost use Rattle.redirect_cells.specs.Kept.{meaning_of, book_of, JoinedBacked};
 ghost use Rattle.redirect_cells.specs.Keeping.{AllCurrent, NoneUnlinked, AreSameHarts, held_words};
 
@@ -24,7 +23,7 @@ pub struct Keeper<'a> {
 }
 
 impl Keeper<'_> {
-    ghost use Rattle.redirect_cells.specs.Keeping.{Published, IsSameShelf, IsCause, HasRange, IsUsed, IsCurrent, Collected, AllGone, NonePending};
+    ghost use Rattle.redirect_cells.specs.Keeping.{Published, IsSameShelf, IsCause, HasRange, IsUsed, IsCurrent, Collected, AllGone, NonePending, IsClosed};
     ghost use Rattle.redirect_cells.specs.Gathered.{IsIdleSeat, AreAllHarts, numbers_of, parts_of};
 
     /// The level of the linked version of a symbol.
@@ -110,12 +109,24 @@ impl Keeper<'_> {
         }
     }
 
-    /// Collects once more, when all harts are gone, and gives the number of code words then in use.
+    // Learns that the words of each version are good, and that the versions back the ended passes of all seats that were taken in.
+    fn learn(&mut self)
+        ensures table { self.new.desk.seat.table ≡ self.old.desk.seat.table }
+        ensures same { (self.new.desk.shelf ≡ self.old.desk.shelf) × (self.new.desk.seat.seat.me.0 ≡ self.old.desk.seat.seat.me.0) }
+        ensures backed { JoinedBacked self.old.desk.seat.seat.me.0 }
+        ensures made { AreMade (meaning_of self.old.desk.seat.seat.me.0.plan) (book_of self.old.desk.seat.seat.me.0) }
+    {
+        self.desk.learn();
+    }
+
+    /// Collects once more, when all harts are gone, and gives the number of code words then in use. The versions that there are then back
+    /// all ended passes of the harts that were taken in.
     pub fn close(mut self) -> u32
         requires { AllGone self.desk.seat.table.now.harts (book_of self.desk.seat.seat.me.0) }
-        ensures { (after : Shelf) × (book : Book) × (given : ℕ) × Collected (book_of self.entry.desk.seat.seat.me.0) book self.entry.desk.shelf after self.entry.desk.seat.table.now.harts (length self.entry.desk.shelf.versions.items) given × NonePending after.versions.items × NoneUnlinked after.versions.items × (result ≡ held_words after.versions.items) }
+        ensures { IsClosed self.entry.desk.seat.seat.me.0 self.entry.desk.shelf self.entry.desk.seat.table.now.harts result }
     {
         self.collect();
+        self.learn();
         self.used()
     }
 }

@@ -1,10 +1,10 @@
 //! The keeper's seat, and its single steps.
 ghost use Rattle.std.specs.Prelude.{◌≡◌, ◌+◌, ◌*◌, ◌%◌, ◌-◌, ◌/◌, ◌<◌, ◌≤◌, [], length, Some};
-ghost use Rattle.code_epochs.specs.Sound.{start_of};
+ghost use Rattle.code_epochs.specs.Sound.{start_of, AreMade};
 ghost use Rattle.code_epochs.specs.Steps.{AllLinked, with_draft};
 ghost use Rattle.std.specs.Coded.{Coded-set};
 ghost use Rattle.redirect_cells.specs.Plans.{plan_code};
-ghost use Rattle.redirect_cells.specs.Kept.{functions_of, IsKeeper, book_of, MayBegin, IsNextWord, IsWhole, header_stored, next_stored, draft_linked, opened, split_view, new_hart, keeper_view, draft_at, joined_view, JoinedBacked, word_in, IsUnlinkedAt, IsPendingAt, HasAllPassed, epoch_raised_by, hart_looked_at, found_gone, version_given_up};
+ghost use Rattle.redirect_cells.specs.Kept.{meaning_of, functions_of, IsKeeper, book_of, MayBegin, IsNextWord, IsWhole, header_stored, next_stored, draft_linked, opened, split_view, new_hart, keeper_view, draft_at, joined_view, JoinedBacked, word_in, IsUnlinkedAt, IsPendingAt, HasAllPassed, epoch_raised_by, hart_looked_at, found_gone, version_given_up};
 
 use crate::hart_seat::HartSeat;
 use crate::plays::{
@@ -76,6 +76,17 @@ impl<'a> KeeperSeat<'a> {
         let shared = &self.table.table.shared;
         shared.join_seat::<HartGoes>(&mut self.seat, seat);
         shared.load::<Learn>(&mut self.seat, 0);
+    }
+
+    /// Learns, by a load that changes nothing, that the words of each version are good, and that the versions back the ended passes of
+    /// all seats that were taken in.
+    pub fn learn(&mut self)
+        ensures table { self.new.table ≡ self.old.table }
+        ensures same { self.new.seat.me.0 ≡ self.old.seat.me.0 }
+        ensures backed { JoinedBacked self.old.seat.me.0 }
+        ensures made { AreMade (meaning_of self.old.seat.me.0.plan) (book_of self.old.seat.me.0) }
+    {
+        self.table.table.shared.load::<Learn>(&mut self.seat, 0);
     }
 
     // Raises the epoch for the version N. The answer is the epoch before.

@@ -3,7 +3,7 @@ use Rattle.std.proofs.Math.Nat.{mod-lt}
 use Rattle.ir_meaning.specs.declared.calls.Ended.{Ended}
 use Rattle.code_epochs.specs.Sound.{At}
 use Rattle.code_epochs.proofs.Lists.{at_some, at_snoc}
-use Rattle.jit_core.specs.Cores.{IsRightAnswer}
+use Rattle.jit_core.specs.Cores.{IsRightAnswer, IsSeatAnswer}
 use Rattle.jit_core.proofs.run.answers.Goals as goal
 
 pub unreachable-requires : goal.unreachable-requires
@@ -28,7 +28,7 @@ loop-call-preserved c =
         ap length p.items ∙ length-append old (end ∷ []) ∙ ap (λ (n : ℕ). n + 1) inv.answers.0,
         λ i e at. ⊎_elim
             (λ (t : At old i e). inv.answers.1 i e t)
-            (λ (t : (i ≡ length old) × (end ≡ e)). subst (λ (k : ℕ). IsRightAnswer core k e) (sym (t.0 ∙ inv.answers.0)) (subst (λ (x : Ended). IsRightAnswer core call x) t.1 c.in-Some.ensures.right))
+            (λ (t : (i ≡ length old) × (end ≡ e)). subst (λ (z : ℕ × Ended). IsRightAnswer core z.0 z.1 × IsSeatAnswer core z.0 z.1) (λ j. (sym (t.0 ∙ inv.answers.0) j, t.1 j)) (c.in-Some.ensures.right, c.in-Some.ensures.seat))
             (at_snoc old end e i (subst (λ (l : List Ended). At l i e) p.items at)),
       );
       room = p.capacity ∙ inv.room;

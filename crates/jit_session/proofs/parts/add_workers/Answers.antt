@@ -1,4 +1,4 @@
-use Rattle.std.proofs.Common.{◌≡◌, ◌∷◌, length, length-append, ap, ◌∙◌, arith}
+use Rattle.std.proofs.Common.{◌≡◌, ◌∷◌, length, length-append, [], ap, ◌∙◌, arith}
 use Rattle.std.specs.Vec.Iter.{into_iter_items}
 use Rattle.jit_session.proofs.Lists.{worker_added, worker_kept}
 use Rattle.jit_session.proofs.parts.add_workers.Goals as goal
@@ -25,7 +25,10 @@ loop-maker-preserved g c =
     let gone = c.in-Some.ensures.steps.1 in
     let short = ap length steps in
     let left = inv.left in
-    let room = inv.room in record {
+    let room = inv.room in
+    let enough = inv.seats in
+    let popped = ap length c.in-Some-pop.ensures.items ∙ length-append c.pop.new.self.items (c.in-Some-pop.jobs ∷ []) in record {
+      seats = omega (arith, gone, enough, popped);
       left = omega (arith, left, gone, short);
       harts = worker_kept at.parts.items _ _ _ items inv.harts;
       asking = worker_added at.parts.items _ _ _ items inv.asking;

@@ -6,4 +6,4 @@ pub returns : goal.returns
 returns g c =
     let number = c.requires.seats.0 in
     opened c.args.checked.now c.args.table.now c.args.shared.now.counts c.args.calls c.args.policy c.in_ok-runners.runners.items c.in_ok-runners.all c.in_ok-asking.asking (length c.args.seats.items) number
-    c.in_ok-runners.ensures.count c.in_ok-runners.ensures.new c.in_ok-runners.ensures.all (c.in_ok-runners.ensures.parts ∙ c.in_ok-spare.ensures.parts) c.in_ok-asking.ensures c.new_parts.result c.new_parts.ensures.harts c.new_parts.ensures.asking
+    c.in_ok-runners.ensures.count c.in_ok-runners.ensures.new c.in_ok-runners.ensures.all (c.in_ok-runners.ensures.parts ∙ c.in_ok-spare.ensures.parts) c.in_ok-asking.ensures.asking c.new_parts.result c.new_parts.ensures.harts c.new_parts.ensures.asking

@@ -25,7 +25,10 @@ returns-in-Ok-run_over-clause-settled g c = λ front last are. (
     let marks = g.P.ReoptPolicy.marks c.args.policy in
     let settled = c.in-Ok-run_over.settled in
     let popped = same_from_push front c.pop.new.self.items last c.in-Some.maker (sym are ∙ c.in-Some.ensures.items) in
-    subst (λ (m : g.row.M.Denot). IsSettled program calls c.args.setup.harts (length program.module_.functions) marks (g.M.Maker.may_crowd m program) settled) (sym popped.1)
-    (subst (λ (n : ℕ). IsSettled program calls n (length program.module_.functions) marks (g.M.Maker.may_crowd c.in-Some.maker program) settled) (table.harts_are ∙ plan.1)
-    (subst (λ (n : ℕ). IsSettled program calls table.harts n marks (g.M.Maker.may_crowd c.in-Some.maker program) settled) (table.functions_are ∙ functions_same table.table.shared.key program plan.0) c.in-Ok-run_over.ensures))
+    let crowds = g.M.Maker.may_crowd c.in-Some.maker program in
+    let words = c.args.setup.code_words in
+    subst (λ (m : g.row.M.Denot). IsSettled program calls c.args.setup.harts (length program.module_.functions) words marks (g.M.Maker.may_crowd m program) settled) (sym popped.1)
+    (subst (λ (n : ℕ). IsSettled program calls n (length program.module_.functions) words marks crowds settled) (table.harts_are ∙ plan.1)
+    (subst (λ (n : ℕ). IsSettled program calls table.harts n words marks crowds settled) (table.functions_are ∙ functions_same table.table.shared.key program plan.0)
+    (subst (λ (n : ℕ). IsSettled program calls table.harts table.functions n marks crowds settled) (table.code_is ∙ plan.2) c.in-Ok-run_over.ensures)))
     )

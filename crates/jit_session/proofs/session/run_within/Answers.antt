@@ -32,7 +32,7 @@ settle-requires-clause-done g c =
     let gone = have_gone g.P.ReoptPolicy.marks c.args.checked.now c.args.table.now c.args.shared.now.counts c.args.calls.now c.args.policy c.in_ok-parts.parts.items c.as_mut_slice.result.now c.run_parts-keeper.new.parts c.in_ok-parts.idle
     c.in_ok-parts.parts.len c.len-harts.result c.as_mut_slice.ensures.value c.in_ok-parts.parts.ok.0 number c.run_parts-keeper.ensures.count c.run_parts-keeper.ensures.went c.in_ok-parts.ensures in
     let over = left g.P.ReoptPolicy.marks c.args.checked.now c.args.table.now c.args.shared.now.counts c.args.calls.now c.args.policy _ c.in_ok-parts.idle c.in-Some.asking c.part_again.new.runners.items gone c.part_again.ensures.harts c.in-Some.ensures.asking in
-    (c.args.checked.now, over.done)
+    over.done
 
 pub settle-requires-clause-count : goal.settle-requires-clause-count
 settle-requires-clause-count g c =
@@ -81,4 +81,4 @@ returns g c =
     let over = left g.P.ReoptPolicy.marks c.args.checked.now c.args.table.now c.args.shared.now.counts c.args.calls.now c.args.policy _ c.in_ok-parts.idle c.in-Some.asking c.part_again.new.runners.items gone c.part_again.ensures.harts c.in-Some.ensures.asking in
     let table = c.args.table.now in
     let program = c.args.checked.now in
-    subst (λ (ms : List ℕ). IsSettled program c.args.calls.now table.harts table.functions ms (g.M.Maker.may_crowd c.args.maker program) c.settle.result) over.marks_are (c.settle.ensures program over.done)
+    subst (λ (ms : List ℕ). IsSettled program c.args.calls.now table.harts table.functions table.code_words ms (g.M.Maker.may_crowd c.args.maker program) c.settle.result) over.marks_are c.settle.ensures

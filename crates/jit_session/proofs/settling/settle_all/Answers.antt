@@ -1,9 +1,11 @@
-use Rattle.std.proofs.Common.{◌≡◌, ℕ, ◌+◌, ◌<◌, ◌≤◌, List, length, subst, ◌∙◌, arith, Bool}
+use Rattle.std.proofs.Common.{◌≡◌, ℕ, ◌+◌, ◌<◌, ◌≤◌, List, length, ap, subst, ◌∙◌, arith, Bool}
 use Rattle.ir_core.specs.Program.{Program}
+use Rattle.redirect_cells.specs.Kept.{book_of}
+use Rattle.redirect_cells.specs.declared.table.CodeTable.{CodeTable}
 use Rattle.entry_counts.specs.Tally.{times}
 use Rattle.reopt_policy.specs.Marks.{level_for}
-use Rattle.jit_session.specs.Levels.{IsSettledSymbol}
-use Rattle.jit_session.proofs.Levels.{length_most, levels_more, still_refused}
+use Rattle.jit_session.specs.Levels.{IsSettledSymbol, MayShow}
+use Rattle.jit_session.proofs.Levels.{length_most, levels_more, still_refused, shown_more, since_gone}
 use Rattle.jit_session.proofs.settling.settle_all.Goals as goal
 
 pub loop-symbol-preserved : goal.loop-symbol-preserved
@@ -24,12 +26,26 @@ loop-symbol-preserved g c =
     subst (λ (t : Program → ℕ → ℕ → Bool). IsSettledSymbol (t program) old new before after k (level_for marks (times k joined))) inv.test
     (subst (λ (ms : List ℕ). IsSettledSymbol (g.M.Maker.may_crowd at.maker program) old new before after k (level_for ms (times k joined))) inv.marks
     (subst (λ (l : List ℕ). IsSettledSymbol (g.M.Maker.may_crowd at.maker program) old new before after k (level_for (g.P.ReoptPolicy.marks at.policy) (times k l))) inv.all.joined step.settled)) in
+    let me = c.args.keeper.now in
+    let book = book_of me.desk.seat.seat.me.0 in
+    let now = book_of at.keeper.desk.seat.seat.me.0 in
+    let harts = me.desk.seat.table.now.harts in
+    let code_words = me.desk.seat.table.now.code_words in
+    let wanted : ℕ → ℕ = λ n. level_for marks (times n joined) in
+    let seen : MayShow now harts (test k (wanted k)) program code_words new before after k (wanted k) =
+    subst (λ (t : CodeTable). MayShow now t.harts (test k (wanted k)) program t.code_words new before after k (wanted k)) (ap (λ t. t.now) inv.table)
+    (subst (λ (t : Program → ℕ → ℕ → Bool). MayShow now at.keeper.desk.seat.table.now.harts (t program k (wanted k)) program at.keeper.desk.seat.table.now.code_words new before after k (wanted k)) inv.test
+    (subst (λ (ms : List ℕ). MayShow now at.keeper.desk.seat.table.now.harts (g.M.Maker.may_crowd at.maker program k (level_for ms (times k joined))) program at.keeper.desk.seat.table.now.code_words new before after k (level_for ms (times k joined))) inv.marks
+    (subst (λ (l : List ℕ). MayShow now at.keeper.desk.seat.table.now.harts (g.M.Maker.may_crowd at.maker program k (level_for (g.P.ReoptPolicy.marks at.policy) (times k l))) program at.keeper.desk.seat.table.now.code_words new before after k (level_for (g.P.ReoptPolicy.marks at.policy) (times k l))) inv.all.joined step.shown))) in
+    let may = since_gone book now harts (test k (wanted k)) program code_words new before after k (wanted k) inv.gone seen in
     let was = inv.count in
     let more = settled.count in
     let most = length_most test old new before after k (level_for marks (times k joined)) settled in
     let few = inv.few in record {
       table = step.table ∙ inv.table;
       gone = step.gone ∙ inv.gone;
+      joined = step.joined ∙ inv.joined;
+      shown = shown_more book harts test program code_words wanted old new before after k settled inv.refused inv.shown may;
       count = omega (arith, was, more);
       all = record { counts = step.all.counts ∙ inv.all.counts; parts = step.all.parts ∙ inv.all.parts; own = step.all.own ∙ inv.all.own; joined = step.all.joined ∙ inv.all.joined };
       levels = levels_more test old new before after k (λ n. level_for marks (times n joined)) settled inv.levels;

@@ -46,3 +46,24 @@ returns-clause-right c =
     let harts : core.work.harts ≡ n = c.requires.kept.harts.1 ∙ sym e in
     let place : place_of core.work.harts (c.args.call % n) (c.args.call / n) ≡ c.args.call = ap (λ (k : ℕ). c.args.call % n + k * (c.args.call / n)) harts ∙ mod-add-div c.args.call n in
     answer_right core told c.args.call (c.args.call / n) (c.args.call % n) seat c.index.result.now s here (at_index seat.answers.items (c.args.call / n) c.index.result.now low c.index.ensures) place
+
+pub returns-clause-seat : goal.returns-clause-seat
+returns-clause-seat c =
+    let core = c.args.self.now in
+    let seats = core.seats in
+    let n = c.len-harts.result in
+    let vec = seats.ok.0 in
+    let len = c.len-harts.ensures in
+    let e : n ≡ length seats.items = omega arith in
+    let some : 0 < n = (let a = c.requires.kept.harts.0 in omega arith) in
+    let small : c.args.call % n < length seats.items = subst (λ (k : ℕ). c.args.call % n < k) e (mod-lt c.args.call some) in
+    let seat = c.index-seat.result.now in
+    let here : At seats.items (c.args.call % n) seat = at_index seats.items (c.args.call % n) seat small c.index-seat.ensures in
+    let own = seat.answers.ok.0 in
+    let many = c.len.ensures in
+    let before = c.if-place-len.false in
+    let low : c.args.call / n < length seat.answers.items = omega arith in (
+      seat,
+      subst (λ (k : ℕ). At seats.items (c.args.call % k) seat) e here,
+      subst (λ (k : ℕ). At seat.answers.items (c.args.call / k) c.index.result.now) e (at_index seat.answers.items (c.args.call / n) c.index.result.now low c.index.ensures),
+    )

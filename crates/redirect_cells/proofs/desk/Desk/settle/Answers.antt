@@ -113,7 +113,7 @@ returns-in-None-clause-settled c =
     let words = ap (λ (y : VersionState). y.words) is in
     let harts = ap (λ t. t.now.harts) c.look_at_harts.ensures.table in
     S.settled_gone (book_of me.seat.seat.me.0) (book_of new.seat.seat.me.0) (book_of last.seat.seat.me.0) me.shelf last.shelf me.seat.table.now.harts i v.0 z.0 z.1 v.1 z.2 s
-    (ap (λ (b : Book). b.looks) book) (ap (λ (b : Book). b.gone) book)
+    (ap (λ (b : Book). b.looks) book) (ap (λ (b : Book). b.gone) book) (ap (λ (b : Book). b.joined) book)
     (g.0 ∙ (λ j. set (items j) i (with_status (is j) GivenUp)) ∙ K.set_set vs i w (with_status v.0 GivenUp)) (g.1 ∙ (λ j. space j + (words j + 1)))
     (c.give_up.ensures.same.1 ∙ ap (λ y. y.size) c.look_at_harts.ensures.same.1) (c.give_up.ensures.same.0 ∙ c.look_at_harts.ensures.same.0)
     (λ h lt. subst (λ (m : ℕ). HasPassed m h) marks (c.in-None.ensures h (subst (λ (n : ℕ). h < n) (sym harts) lt))))
