@@ -10,11 +10,13 @@ use Rattle.ir_core.specs.declared.program.Function.{Function}
 use Rattle.ir_core.specs.Units.{instructions, results, has_result, values}
 use Rattle.ir_meaning.specs.Step.{insts_at, insts_of, number_at}
 use Rattle.rv_asm.specs.Code.{Code}
-use Rattle.quick_code.specs.Blocks.{Item, Plain, Bind, Goto, Test, edges_of, edges_in, block_label, label_count}
-use Rattle.quick_code.specs.Assembly.{bind_all, put, labelled}
+use Rattle.code_pieces.specs.Items.{Item, Plain, Bind, Goto, Test}
+use Rattle.quick_code.specs.Blocks.{edges_of, edges_in, block_label, label_count}
+use Rattle.code_pieces.specs.Assembly.{bind_all, put, labelled}
 use Rattle.fast_isel.specs.declared.starts.Start.{Start}
 use Rattle.fast_isel.specs.Written.{AreFree}
-use Rattle.quick_code.proofs.Fresh.{Rise, rise-ends, label-next, label-first}
+use Rattle.code_pieces.proofs.Rising.{Rise, rise-ends}
+use Rattle.quick_code.proofs.Fresh.{label-next, label-first}
 
 abbrev edge_number : Inst → ℕ
 edge_number inst = edges_of inst.op

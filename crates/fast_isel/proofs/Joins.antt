@@ -18,16 +18,20 @@ use Rattle.rv_core.specs.declared.instr.BranchOp.TheVariants.{Beq}
 use Rattle.rv_core.specs.declared.reg.Reg.TheVariants.{X0, T0, T1}
 use Rattle.rv_asm.specs.Code.{Code}
 use Rattle.ir_meaning.specs.Step.{insts_at, number_at, on_edge, phis}
-use Rattle.quick_code.specs.Code.{store_value, prologue}
+use Rattle.code_pieces.specs.Code.{store_value, prologue}
 use Rattle.quick_code.specs.Operations.{value_code}
 use Rattle.fast_isel.specs.Taken.{are_cases, are_edge_operands, is_form, are_forms}
-use Rattle.quick_code.specs.Blocks.{label_count, is_headless, first_to, case_label, case_edge, case_edges, are_headless, switch_edges, Item, cases_items, switch_items, Bind, Goto, Test, plain, load_next, next_code, next_of, nexts_code, edge_code, block_label, edge_label, edge_items, last_edge_items, branch_items, phis_code, op_items, insts_items, block_items, blocks_items, arguments_code}
+use Rattle.code_pieces.specs.Items.{Item, Bind, Goto, Test, plain}
+use Rattle.quick_code.specs.Blocks.{label_count, is_headless, first_to, case_label, case_edge, case_edges, are_headless, switch_edges, cases_items, switch_items, load_next, next_code, next_of, nexts_code, edge_code, block_label, edge_label, edge_items, last_edge_items, branch_items, phis_code, op_items, insts_items, block_items, blocks_items, arguments_code}
 use Rattle.quick_code.specs.Forms.{IsFlow, IsJump}
-use Rattle.quick_code.specs.Data.{takes_data, save_code}
-use Rattle.quick_code.specs.Assembly.{put, labelled, code_of}
+use Rattle.code_pieces.specs.Bytes.{save_code}
+use Rattle.quick_code.specs.Data.{takes_data}
+use Rattle.code_pieces.specs.Assembly.{put, labelled}
+use Rattle.quick_code.specs.Assembly.{code_of}
 use Rattle.fast_isel_emit.specs.Written.{put_code}
 use Rattle.fast_isel.specs.Written.{AreFree}
-use Rattle.quick_code.proofs.Fresh.{Rise, rise-plain, rise-edge, rise-case, rise-cases, rise-op, rise-block, EndsByJump, ends-drop, none-behind}
+use Rattle.code_pieces.proofs.Rising.{Rise, rise-plain}
+use Rattle.quick_code.proofs.Fresh.{rise-edge, rise-case, rise-cases, rise-op, rise-block, EndsByJump, ends-drop, none-behind}
 use Rattle.fast_isel_emit.proofs.Put.{put-none, then-put, code_none, code_is, code_put, more_code, code_code}
 use Rattle.fast_isel.proofs.Counts.{one_if, number-step, free-behind, free-label, free-first}
 

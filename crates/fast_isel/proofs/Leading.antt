@@ -1,29 +1,27 @@
 -- The indices of an address of a checked module lead from part to part.
-use Rattle.std.proofs.Common.{◌≡◌, refl, sym, ap, subst, ◌∙◌, ℕ, zero, suc, ◌+◌, ◌-◌, ◌*◌, ◌%◌, ◌^◌, ◌<◌, ◌≤◌, List, [], ◌∷◌, length, ◌⊎◌, inl, inr, map, Option, Some, None, Bool, true, false, cond, arith}
-use Rattle.std.specs.Prelude.{slice_get, ◌&&◌, nat_lt, not, sum_by, ℤ, pos, negsuc, ◌-ℤ◌}
+use Rattle.std.proofs.Common.{◌≡◌, refl, sym, ap, subst, ◌∙◌, ℕ, ◌+◌, ◌-◌, ◌*◌, ◌%◌, ◌^◌, ◌<◌, ◌≤◌, List, [], ◌∷◌, length, ◌⊎◌, inl, inr, Option, Some, None, Bool, true, false, cond, arith}
+use Rattle.std.specs.Prelude.{slice_get, nat_lt, sum_by, ℤ}
 use Rattle.std.proofs.Math.Pow.{pow_mono}
 use Rattle.std.proofs.lemmas.Nat.{pow-add}
-use Rattle.std.proofs.lemmas.Bool.{cases_lt, and_parts, ltb-true, ltb-false, lt-ltb}
-use Rattle.std.proofs.lemmas.List.Sums.{sum_by-cons}
+use Rattle.std.proofs.lemmas.Bool.{cases_lt, and_parts, lt-ltb}
 use Rattle.ir_core.specs.declared.types.Ty.{Ty}
 use Rattle.ir_core.specs.declared.types.Ty.TheVariants.{Void, Int, Ptr}
-use Rattle.ir_core.specs.declared.types.MemTy.{MemTy, roll-MemTy, out-MemTy, roll-out-MemTy, fold-roll-MemTy}
+use Rattle.ir_core.specs.declared.types.MemTy.{MemTy, roll-MemTy, out-MemTy, roll-out-MemTy}
 use Rattle.ir_core.specs.declared.types.MemTy.TheVariants.{rolls-Array, rolls-Struct, Array, Struct}
 use Rattle.ir_core.specs.declared.types.MemTy.TheOpen as layer
 use Rattle.ir_core.specs.declared.code.Operand.{Operand}
 use Rattle.ir_core.specs.declared.code.Operand.TheVariants.{Value as Local, Num, Null, Place, Poison}
-use Rattle.ir_core.specs.Layout.{Measure, measure, measure_step}
-use Rattle.ir_core.proofs.Layouts.{measure-Array}
-use Rattle.rj_num.specs.Width.{signed, is_negative, modulo, sign_extended}
+use Rattle.rj_num.specs.Width.{modulo}
 use Rattle.ir_flow.specs.Limits.{nodes}
 use Rattle.ir_flow.proofs.Stops.{nodes-Struct}
+use Rattle.ir_data.proofs.Nodes.{fields-few, field-few, element-few}
 use Rattle.ir_meaning.specs.Operators.{width}
 use Rattle.ir_meaning.specs.Memory.{index_64}
 use Rattle.ir_meaning.specs.Typed.{IsInteger, IsOperand, AreIndices}
-use Rattle.ir_verify.specs.Types.{leads_on, leads_into, is_part, all_int, field_named}
+use Rattle.ir_verify.specs.Types.{leads_on, leads_into, is_part, all_int}
 use Rattle.ir_verify.proofs.Lists.{is_below}
 use Rattle.quick_code.proofs.Narrow.{positive, negative}
-use Rattle.quick_code.specs.Parts.{literal, is_index, is_literal, of_field, is_step, are_steps, is_path}
+use Rattle.quick_code.specs.Parts.{literal, is_index, of_field, is_step, are_steps, is_path}
 
 width-least : (ty : Ty) → IsInteger ty → 1 ≤ width ty
 width-least Void is = absurd is
@@ -61,42 +59,6 @@ near w n one most lt small = by_half (cases_lt n (2 ^ (w - 1)))
     by_half (inr h) =
         let is : index_64 w n ≡ 2 ^ 64 - 1 - (2 ^ w - n - 1) % 2 ^ 64 = ap (λ (z : ℤ). modulo 64 z) (negative w n h lt) in
         absurd (let bad : ⊥ = omega (arith, is, small, h, lt, wide, halved, half) in bad)
-
--- ---- how many types a type is made of
-
-some-node : (ty : MemTy) → 1 ≤ nodes ty
-some-node ty = subst (λ (t : MemTy). 1 ≤ nodes t) (roll-out-MemTy ty) (by_layer (out-MemTy ty))
-  where
-    by_layer : (l : layer.MemTy-F MemTy) → 1 ≤ nodes (roll-MemTy l)
-    by_layer (layer.Int w) = let e = ap (λ (m : Measure). m.nodes) (fold-roll-MemTy Measure measure_step (layer.Int w)) in omega (arith, e)
-    by_layer layer.Ptr = let e = ap (λ (m : Measure). m.nodes) (fold-roll-MemTy Measure measure_step layer.Ptr) in omega (arith, e)
-    by_layer (layer.Array count element) = let e = ap (λ (m : Measure). m.nodes) (fold-roll-MemTy Measure measure_step (layer.Array count element)) in omega (arith, e)
-    by_layer (layer.Struct fields packed) = let e = ap (λ (m : Measure). m.nodes) (fold-roll-MemTy Measure measure_step (layer.Struct fields packed)) in omega (arith, e)
-
-fields-few : (fields : List MemTy) → length fields ≤ sum_by nodes fields
-fields-few [] = omega arith
-fields-few (field ∷ fields) =
-    let one = some-node field in
-    let rest = fields-few fields in
-    let sum = sum_by-cons nodes field fields in
-    omega (arith, one, rest, sum)
-
-field-few : (fields : List MemTy) (i : ℕ) (field : MemTy) → slice_get fields i ≡ Some field → nodes field ≤ sum_by nodes fields
-field-few [] i field e = absurd (let bad : ⊥ = cc in bad)
-field-few (f ∷ fields) zero field e =
-    let same : nodes f ≡ nodes field = ap nodes (let z : f ≡ field = cc in z) in
-    let sum = sum_by-cons nodes f fields in
-    omega (arith, same, sum)
-field-few (f ∷ fields) (suc i) field e =
-    let rest = field-few fields i field e in
-    let sum = sum_by-cons nodes f fields in
-    omega (arith, rest, sum)
-
-element-few : (count : ℕ) (element : MemTy) → nodes element ≤ nodes (Array count element)
-element-few count element =
-    let e = ap (λ (m : Measure). m.nodes) (measure-Array count element) in
-    let sum = sum_by-cons (λ (m : Measure). m.nodes) (measure element) [] in
-    omega (arith, e, sum)
 
 -- ---- indices
 

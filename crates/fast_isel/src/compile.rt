@@ -13,9 +13,9 @@ ghost use Rattle.quick_code.specs.Forms.{IsFlow};
 ghost use Rattle.fast_isel.specs.Taken.{is_taken};
 
 use crate::blocks::code_of;
-use fast_isel_emit::places::Places;
 use ir_core::program::Function;
 use ir_core::units::values_of;
+use ir_data::addresses::Places;
 use ir_verify::checked::Checked;
 use rj_num::NoMemory;
 use rv_play::version::{MakeRefusal, Version};

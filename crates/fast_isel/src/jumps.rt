@@ -3,8 +3,9 @@ ghost use Rattle.std.specs.Prelude.{◌≡◌, ◌+◌, ◌*◌, ◌<◌, ◌≤
 ghost use Rattle.rv_core.specs.declared.reg.Reg.TheVariants.{T0};
 ghost use Rattle.ir_core.specs.Units.{values as value_count};
 ghost use Rattle.ir_meaning.specs.Step.{insts_at, number_at, on_edge, phis};
-ghost use Rattle.quick_code.specs.Blocks.{Goto, Bind, Test, edge_code, edge_items, last_edge_items, branch_items, phis_code, block_label, edge_label};
-ghost use Rattle.quick_code.specs.Assembly.{put};
+ghost use Rattle.code_pieces.specs.Items.{Goto, Bind, Test};
+ghost use Rattle.quick_code.specs.Blocks.{edge_code, edge_items, last_edge_items, branch_items, phis_code, block_label, edge_label};
+ghost use Rattle.code_pieces.specs.Assembly.{put};
 ghost use Rattle.fast_isel_emit.specs.Written.{put_code};
 ghost use Rattle.fast_isel.specs.Written.{AreStarts};
 ghost use Rattle.fast_isel_emit.specs.Operands.{is_operand};
@@ -12,9 +13,9 @@ ghost use Rattle.fast_isel.specs.Taken.{are_edge_operands, are_forms, is_taken};
 
 use crate::starts::{Start, edge_in, first_in, insts_in, label_in};
 use fast_isel_emit::pieces::{put_next, put_phi, put_value};
-use fast_isel_emit::places::Places;
 use ir_core::code::{Inst, Op, Operand};
 use ir_core::program::Function;
+use ir_data::addresses::Places;
 use rj_num::NoMemory;
 use rv_asm::asm::Asm;
 use rv_asm::item::Label;
@@ -101,7 +102,7 @@ pub fn put_phis(
     Ok(heads)
 }
 
-#[tactic(auto, unfolding(quick_code::specs::Assembly::put))]
+#[tactic(auto, unfolding(code_pieces::specs::Assembly::put))]
 fn put_goto(asm: &mut Asm, alloc: Global, label: u32) -> Result<(), NoMemory>
     ensures { OnOk result (asm.new ≡ put asm.old (Goto label ∷ [])) }
 {
@@ -109,7 +110,7 @@ fn put_goto(asm: &mut Asm, alloc: Global, label: u32) -> Result<(), NoMemory>
 }
 
 /// Branches to a label where a comparison of t0 and another register holds.
-#[tactic(auto, unfolding(quick_code::specs::Assembly::put))]
+#[tactic(auto, unfolding(code_pieces::specs::Assembly::put))]
 pub fn put_test(
     asm: &mut Asm,
     alloc: Global,

@@ -3,7 +3,7 @@ ghost use Rattle.std.specs.Prelude.{◌≡◌, length, IfOk};
 ghost use Rattle.fast_isel.specs.Modules.{AreQuick};
 
 use crate::compile::quick_flow;
-use crate::places::Places;
+use ir_data::addresses::Places;
 use ir_verify::checked::Checked;
 use rj_num::NoMemory;
 use rv_play::version::Version;

@@ -20,11 +20,12 @@ use Rattle.rv_core.specs.declared.instr.ImmOp.TheVariants.{Addi, Slli}
 use Rattle.rv_core.specs.declared.instr.Instr.TheVariants.{Lui, Branch, Imm, Ecall}
 use Rattle.ir_meaning.specs.Operators.{width}
 use Rattle.ir_core.specs.declared.program.Global.{Global}
-use Rattle.quick_code.specs.Code.{argument_reg, store_value, store_at, lowered_code, lower_sp, prologue, const_code, word_code, is_word, high_part, add_low}
+use Rattle.code_pieces.specs.Code.{argument_reg, store_value, store_at, lowered_code, lower_sp, prologue, const_code, word_code, is_word, high_part, add_low}
 use Rattle.quick_code.specs.Narrow.{zero_extended}
 use Rattle.quick_code.specs.Operations.{value_code, values_code, built_in_operands}
-use Rattle.quick_code.specs.Blocks.{Item, Plain, Bind, Goto, Test, plain, arguments_code}
-use Rattle.quick_code.specs.Assembly.{assembled, bind_all, put, labelled}
+use Rattle.code_pieces.specs.Items.{Item, Plain, Bind, Goto, Test, plain}
+use Rattle.quick_code.specs.Blocks.{arguments_code}
+use Rattle.code_pieces.specs.Assembly.{assembled, bind_all, put, labelled}
 use Rattle.fast_isel_emit.specs.Written.{put_code}
 
 assembled-append : (xs ys : List Item) → assembled (xs ++ ys) ≡ assembled xs ++ assembled ys

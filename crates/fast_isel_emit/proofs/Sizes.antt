@@ -7,7 +7,7 @@ use Rattle.ir_core.specs.declared.layout.Extent.{Extent}
 use Rattle.ir_core.specs.Layout.{size, aligned}
 use Rattle.ir_flow.specs.Limits.{capped, measured}
 use Rattle.ir_data.proofs.Sizes.{is_measured}
-use Rattle.quick_code.specs.Data.{taken_bytes}
+use Rattle.code_pieces.specs.Bytes.{taken_bytes}
 
 -- 2^32 bytes and more are all alike
 many-bytes : (bytes : ℕ) → 2 ^ 32 ≤ bytes → taken_bytes bytes ≡ 2 ^ 32

@@ -15,10 +15,10 @@ ghost use Rattle.fast_isel_emit.specs.Operands.{is_width, is_built_in, are_argum
 use crate::moves::{moves_bytes, put_moved};
 use crate::operations::{put_one, put_two};
 use crate::pieces::{put_all, put_store_value, width_of};
-use crate::places::Places;
 use crate::work::{put_cut, put_sign};
 use ir_core::code::{BuiltIn, Operand};
 use ir_core::types::Ty;
+use ir_data::addresses::Places;
 use rj_num::NoMemory;
 use rv_asm::asm::Asm;
 use rv_core::instr::{BranchOp, ImmOp, Instr, RegOp};

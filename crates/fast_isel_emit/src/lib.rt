@@ -7,5 +7,4 @@ pub mod moves;
 pub mod operations;
 pub mod parts;
 pub mod pieces;
-pub mod places;
 pub mod work;

@@ -1,15 +1,16 @@
 // The built-ins that move bytes of data memory, byte by byte in loops.
 ghost use Rattle.std.specs.Prelude.{◌≡◌, ◌≤◌, [], ◌++◌, length, OnOk, true};
 ghost use Rattle.ir_meaning.specs.Step.{moves_bytes as moves_bytes_of};
-ghost use Rattle.quick_code.specs.Data.{move_code, fill_code, moving_code, moved_code};
+ghost use Rattle.code_pieces.specs.Bytes.{move_code, fill_code};
+ghost use Rattle.quick_code.specs.Data.{moving_code, moved_code};
 ghost use Rattle.fast_isel_emit.specs.Written.{put_code};
 ghost use Rattle.fast_isel_emit.specs.Operands.{are_arguments};
 
 use crate::operations::put_three;
 use crate::pieces::put_all;
-use crate::places::Places;
 use ir_core::code::{BuiltIn, Operand};
 use ir_core::types::Ty;
+use ir_data::addresses::Places;
 use rj_num::NoMemory;
 use rv_asm::asm::Asm;
 use rv_core::instr::{BranchOp, ImmOp, Instr, LoadOp, RegOp, StoreOp};

@@ -6,10 +6,10 @@ ghost use Rattle.fast_isel_emit.specs.Written.{put_code};
 ghost use Rattle.fast_isel_emit.specs.Operands.{is_width, is_operand};
 
 use crate::pieces::{put_all, put_instr, put_store_value, put_value, width_of};
-use crate::places::Places;
 use crate::work::{put_cast_work, put_comparison, put_operator};
 use ir_core::code::{BinOp, CastOp, Flags, Operand, Pred};
 use ir_core::types::Ty;
+use ir_data::addresses::Places;
 use rj_num::NoMemory;
 use rv_asm::asm::Asm;
 use rv_core::instr::{BranchOp, ImmOp, Instr, LoadOp, StoreOp};

@@ -1,13 +1,13 @@
 // Addresses of parts: what the indices add to the address in t0.
-ghost use Rattle.std.specs.Prelude.{◌≡◌, ◌+◌, ◌%◌, ◌^◌, ◌<◌, ◌≤◌, [], ◌∷◌, ◌++◌, length, map, OnOk, IfOk, IfSome, true};
+ghost use Rattle.std.specs.Prelude.{◌≡◌, ◌+◌, ◌%◌, ◌^◌, ◌<◌, ◌≤◌, [], ◌∷◌, ◌++◌, OnOk, IfOk, IfSome, true};
 ghost use Rattle.ir_core.specs.declared.code.Op.TheVariants.{Gep};
-ghost use Rattle.ir_core.specs.Layout.{HasSizesWithin, extent_of as extent_of_type, end_of_fields};
+ghost use Rattle.ir_core.specs.Layout.{HasSizesWithin};
 ghost use Rattle.ir_meaning.specs.Operators.{width as width_of_type};
 ghost use Rattle.rv_core.specs.Instr.{Fits12};
 ghost use Rattle.rv_core.specs.declared.reg.Reg.TheVariants.{T0, T1, T2};
 ghost use Rattle.rv_core.specs.declared.instr.RegOp.TheVariants.{Add, Mul};
 ghost use Rattle.rv_core.specs.declared.instr.Instr.TheVariants.{Op as RegisterOp};
-ghost use Rattle.quick_code.specs.Code.{const_code};
+ghost use Rattle.code_pieces.specs.Code.{const_code};
 ghost use Rattle.quick_code.specs.Operations.{operation_code};
 ghost use Rattle.quick_code.specs.Parts.{sized, literal as literal_of, pieces, pieces_into, pieces_code, bytes_in, exponent, scale_code, times_code, twelve, bytes_code, is_path, are_steps};
 ghost use Rattle.fast_isel_emit.specs.Written.{put_code};
@@ -15,11 +15,12 @@ ghost use Rattle.fast_isel_emit.specs.Operands.{is_operand, is_integer, is_index
 
 use crate::operations::put_one;
 use crate::pieces::{put_const, put_instr, put_load_at, put_store_value};
-use crate::places::Places;
 use crate::work::put_sign;
 use ir_core::code::Operand;
 use ir_core::layout::{field_offset, size_of};
 use ir_core::types::{MemTy, Ty};
+use ir_data::addresses::Places;
+use ir_data::struct_fields::end_of;
 use rj_num::NoMemory;
 use rj_num::width::extend;
 use rv_asm::asm::Asm;
@@ -136,19 +137,6 @@ fn put_index(
         }
         _ => Ok(bytes),
     }
-}
-
-// Where the last field of a struct ends.
-fn end_of(fields: &[MemTy], packed: bool) -> u64
-    requires few { length fields.now < 2 ^ 32 }
-    requires sizes { HasSizesWithin (MemTy.Struct fields.now packed) }
-    ensures { result ≡ end_of_fields packed 0 (map extent_of_type fields.now) }
-{
-    if fields.is_empty() {
-        return 0;
-    }
-    let last = fields.len() as u32 - 1;
-    field_offset(fields, packed, last) + size_of(&fields[last as usize])
 }
 
 // What indices into a type add.

@@ -4,8 +4,8 @@ ghost use Rattle.rv_core.specs.Instr.{IsValid, AreValid, Fits12};
 ghost use Rattle.rv_play.specs.Ending.{upper, lower};
 ghost use Rattle.rv_core.specs.declared.instr.Instr.TheVariants.{Imm, Op as RegisterOp, Ecall};
 ghost use Rattle.ir_meaning.specs.Operators.{width as width_type};
-ghost use Rattle.quick_code.specs.Code.{argument_reg, load_at, store_at, store_value, lowered_code, lower_sp, prologue, const_code, call_code, raised_code, leave_code};
-ghost use Rattle.quick_code.specs.Data.{restore_code};
+ghost use Rattle.code_pieces.specs.Code.{argument_reg, load_at, store_at, store_value, lowered_code, lower_sp, prologue, const_code, call_code, raised_code, leave_code};
+ghost use Rattle.code_pieces.specs.Bytes.{restore_code};
 ghost use Rattle.quick_code.specs.Narrow.{zero_extended};
 ghost use Rattle.quick_code.specs.Operations.{value_code, values_code};
 ghost use Rattle.quick_code.specs.Blocks.{load_next, store_next, next_code, return_code, answer_code, called_code, arguments_code};
@@ -13,10 +13,10 @@ ghost use Rattle.fast_isel_emit.specs.Written.{put_code};
 ghost use Rattle.fast_isel_emit.specs.Operands.{is_width, are_widths, is_given, is_operand, are_arguments, is_answer};
 
 use crate::allocas::put_restore;
-use crate::places::Places;
 use crate::work::put_cut;
 use ir_core::code::Operand;
 use ir_core::types::Ty;
+use ir_data::addresses::Places;
 use rj_num::NoMemory;
 use rv_asm::asm::Asm;
 use rv_core::instr::{BranchOp, ImmOp, Instr, LoadOp, RegOp, StoreOp};
@@ -89,7 +89,7 @@ fn high_part_of(offset: u32) -> u32
 }
 
 /// Loads what stands at an offset above sp.
-#[tactic(auto, unfolding(quick_code::specs::Code::load_at))]
+#[tactic(auto, unfolding(code_pieces::specs::Code::load_at))]
 pub fn put_load_at(asm: &mut Asm, alloc: Global, register: Reg, offset: u32) -> Result<(), NoMemory>
     requires { offset < 2 ^ 20 }
     ensures { OnOk result (asm.new ≡ put_code asm.old (load_at register offset)) }
@@ -118,7 +118,7 @@ pub fn put_load_at(asm: &mut Asm, alloc: Global, register: Reg, offset: u32) -> 
 }
 
 /// Stores a register at an offset above sp.
-#[tactic(auto, unfolding(quick_code::specs::Code::store_at))]
+#[tactic(auto, unfolding(code_pieces::specs::Code::store_at))]
 pub fn put_store_at(
     asm: &mut Asm,
     alloc: Global,
@@ -199,7 +199,7 @@ fn put_less(asm: &mut Asm, alloc: Global, frame: u32) -> Result<(), NoMemory>
 }
 
 // Sp less a frame, in t0.
-#[tactic(auto, unfolding(quick_code::specs::Code::lowered_code))]
+#[tactic(auto, unfolding(code_pieces::specs::Code::lowered_code))]
 fn put_lowered(asm: &mut Asm, alloc: Global, frame: u32) -> Result<(), NoMemory>
     requires { 128 ≤ frame }
     ensures { OnOk result (asm.new ≡ put_code asm.old (lowered_code frame)) }
@@ -385,7 +385,7 @@ fn put_more(asm: &mut Asm, alloc: Global, frame: u32) -> Result<(), NoMemory>
 }
 
 // Raises sp by a frame.
-#[tactic(auto, unfolding(quick_code::specs::Code::raised_code))]
+#[tactic(auto, unfolding(code_pieces::specs::Code::raised_code))]
 fn put_raised(asm: &mut Asm, alloc: Global, frame: u32) -> Result<(), NoMemory>
     ensures { OnOk result (asm.new ≡ put_code asm.old (raised_code frame)) }
 {

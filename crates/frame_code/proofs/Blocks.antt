@@ -7,9 +7,9 @@ use Rattle.mir.specs.declared.code.MInst.{MInst}
 use Rattle.mir.specs.declared.code.MFunction.{MFunction}
 use Rattle.mir.specs.declared.places.Places.{Places}
 use Rattle.mir.specs.Code.{block_of}
-use Rattle.quick_code.specs.Blocks.{Item, plain}
-use Rattle.quick_code.specs.Labels.{StandsAs}
-use Rattle.quick_code.proofs.Labelled.{plain-apart, behind-items}
+use Rattle.code_pieces.specs.Items.{Item, plain}
+use Rattle.code_pieces.specs.Labels.{StandsAs}
+use Rattle.code_pieces.proofs.Labelled.{plain-apart, behind-items}
 use Rattle.frame_code.specs.Code.{insts_items, blocks_items, entry_code, function_items}
 use Rattle.frame_code.specs.Laws.{CodeStandsLaidOut}
 

@@ -24,7 +24,7 @@ use Rattle.walks.proofs.Numbers.{number_known, same_number}
 use Rattle.mir_play.specs.Values.{load_size, extended as extended_bits}
 use Rattle.mir_play.specs.Machine.{IsHeld}
 use Rattle.mir_play.proofs.Numbers.{bit_below_cut, right_of, above_of, not_of}
-use Rattle.quick_code.proofs.DataMemory.{get-front, get-back, get-take, get-drop}
+use Rattle.code_pieces.proofs.Memories.{get-front, get-back, get-take, get-drop}
 
 -- ---- the bits of what is loaded
 

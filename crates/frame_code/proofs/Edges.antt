@@ -28,10 +28,10 @@ use Rattle.mir_play.specs.Values.{taken as branch_taken}
 use Rattle.mir_play.specs.Play.{State, weight, phi_weights, behind_phis, jumped, take_edge, branch, by_inst, step}
 use Rattle.mir_play.proofs.Holding.{values_hold}
 use Rattle.good_code.proofs.BySteps.{Advances, Onward}
-use Rattle.quick_code.specs.Blocks.{Item, Plain, Bind, Goto, Test, plain}
-use Rattle.quick_code.specs.Labels.{Hops, StandsAs}
-use Rattle.quick_code.proofs.Const.{eq-true}
-use Rattle.quick_code.proofs.Labelled.{plain-apart}
+use Rattle.code_pieces.specs.Items.{Item, Plain, Bind, Goto, Test, plain}
+use Rattle.code_pieces.specs.Labels.{Hops, StandsAs}
+use Rattle.code_pieces.proofs.Const.{eq-true}
+use Rattle.code_pieces.proofs.Labelled.{plain-apart}
 use Rattle.frame_code.specs.Frame.{slots_of}
 use Rattle.frame_code.specs.Code.{held_in, fetch, taken_in, goto_items, inst_items, insts_items, blocks_items}
 use Rattle.frame_code.specs.Stands.{number_at, Stands, Here, left}

@@ -28,14 +28,14 @@ use Rattle.mir.specs.declared.places.Places.{Places}
 use Rattle.mir.specs.Places.{place_of}
 use Rattle.walks.specs.Face.{frame_of}
 use Rattle.mir_play.specs.Refines.{static_of, static_of_block, static_weight}
-use Rattle.quick_code.specs.Code.{negative, argument_reg, load_at, store_at, const_code, call_code, prologue, leave_code}
-use Rattle.quick_code.specs.Data.{taken_bytes, move_code as copy_code, fill_code}
-use Rattle.quick_code.specs.Blocks.{Item, Plain, Bind, Goto, Test, plain}
-use Rattle.quick_code.specs.Assembly.{assembled, put}
-use Rattle.quick_code.proofs.Const.{const-short}
-use Rattle.quick_code.proofs.Slots.{load-short, store-short}
-use Rattle.quick_code.proofs.Entry.{prologue-short}
-use Rattle.quick_code.proofs.Ends.{leave-short}
+use Rattle.code_pieces.specs.Code.{negative, argument_reg, load_at, store_at, const_code, call_code, prologue, leave_code}
+use Rattle.code_pieces.specs.Bytes.{taken_bytes, move_code as copy_code, fill_code}
+use Rattle.code_pieces.specs.Items.{Item, Plain, Bind, Goto, Test, plain}
+use Rattle.code_pieces.specs.Assembly.{assembled, put}
+use Rattle.code_pieces.proofs.Const.{const-short}
+use Rattle.code_pieces.proofs.Slots.{load-short, store-short}
+use Rattle.code_pieces.proofs.Entry.{prologue-short}
+use Rattle.code_pieces.proofs.Ends.{leave-short}
 use Rattle.frame_code.specs.Frame.{saved_reg, save_offset, uses, used, used_from}
 use Rattle.frame_code.specs.Code.{held_in, fetch, keep, load_place, store_place, load_code, store_code, bytes_code, save_code, restore_code, give_back, taken, take_code, arguments_code, answer_code, result_code, goto_items, inst_code, inst_items, insts_items, blocks_items, entry_code, function_items}
 use Rattle.frame_code.specs.Assembly.{code_of}

@@ -28,8 +28,8 @@ use Rattle.mir.specs.WellFormed.{is_param, HasRanges}
 use Rattle.mir_play.specs.Play.{State}
 use Rattle.mir_play.specs.Machine.{IsHeld}
 use Rattle.good_code.proofs.BySteps.{Advances, Onward}
-use Rattle.quick_code.specs.Blocks.{Item, plain}
-use Rattle.quick_code.specs.Labels.{StandsAs}
+use Rattle.code_pieces.specs.Items.{Item, plain}
+use Rattle.code_pieces.specs.Labels.{StandsAs}
 use Rattle.frame_code.specs.Frame.{slots_of, ra_offset, save_offset, uses}
 use Rattle.frame_code.specs.Code.{taken_by, taken_in, taken, inst_items, insts_items, blocks_items}
 use Rattle.frame_code.specs.Stands.{saved_number, number_at, Keeps, Stands, Here, left}

@@ -9,11 +9,11 @@ use Rattle.mir.specs.declared.code.MInst.TheVariants.{Param, Op, Imm, Const, Mov
 use Rattle.mir.specs.declared.code.MFunction.{MFunction}
 use Rattle.mir.specs.declared.places.Places.{Places}
 use Rattle.mir.specs.Places.{place_of}
-use Rattle.quick_code.specs.Blocks.{Item, Plain, Bind, Goto, Test, plain}
-use Rattle.quick_code.specs.Assembly.{assembled, bind_all, put}
-use Rattle.quick_code.specs.Labels.{StandEverywhere}
-use Rattle.quick_code.proofs.Bridge.{AreBound, AreWithin, stand-everywhere}
-use Rattle.quick_code.proofs.Fresh.{Rise, rise-append, rise-plain, rise-lower, are-bound, bind-within, none-within}
+use Rattle.code_pieces.specs.Items.{Item, Plain, Bind, Goto, Test, plain}
+use Rattle.code_pieces.specs.Assembly.{assembled, bind_all, put}
+use Rattle.code_pieces.specs.Labels.{StandEverywhere}
+use Rattle.code_pieces.proofs.Bridge.{AreBound, AreWithin, stand-everywhere}
+use Rattle.code_pieces.proofs.Rising.{Rise, rise-append, rise-plain, rise-lower, are-bound, bind-within, none-within}
 use Rattle.frame_code.specs.Code.{held_in, fetch, goto_items, inst_code, inst_items, insts_items, blocks_items, entry_code, function_items}
 use Rattle.frame_code.specs.Assembly.{code_of}
 use Rattle.frame_code.specs.Laws.{LaidOutStands}

@@ -7,7 +7,7 @@ use Rattle.mir.specs.declared.places.Places.{Places}
 use Rattle.mir.specs.Places.{place_of}
 use Rattle.frame_code.specs.Frame.{is_saved, some_saved, uses}
 use Rattle.frame_code.specs.Stands.{saved_number}
-use Rattle.quick_code.proofs.Const.{self-eq}
+use Rattle.code_pieces.proofs.Const.{self-eq}
 
 -- s0 and s1 are x8 and x9, s2 to s10 are x18 to x26
 pub saved-cases : (k : ℕ) → k < 11 → ((k < 2) × (saved_number k ≡ 8 + k)) ⊎ ((2 ≤ k) × (saved_number k ≡ 16 + k))

@@ -23,10 +23,10 @@ use Rattle.mir.specs.declared.places.Place.{Place}
 use Rattle.mir.specs.declared.places.Place.TheVariants.{Saved, Slot}
 use Rattle.mir.specs.Places.{IsPlace}
 use Rattle.rv_play.proofs.Fits.{op_value_below, modulo_below}
-use Rattle.quick_code.specs.Code.{load_at, store_at, const_code}
-use Rattle.quick_code.proofs.Const.{Puts, put, puts-one, read-put, const-puts}
-use Rattle.quick_code.proofs.Cuts.{read-is}
-use Rattle.quick_code.proofs.Slots.{Alters, Saves, loads-at, saves-at, other-register}
+use Rattle.code_pieces.specs.Code.{load_at, store_at, const_code}
+use Rattle.code_pieces.proofs.Const.{Puts, put, puts-one, read-put, const-puts}
+use Rattle.code_pieces.proofs.Const.{read-is}
+use Rattle.code_pieces.proofs.Slots.{Alters, Saves, loads-at, saves-at, other-register}
 use Rattle.frame_code.specs.Frame.{saved_reg}
 use Rattle.frame_code.specs.Code.{held_in, fetch, keep, load_place, store_place, op_code, imm_code, number_code, move_code}
 use Rattle.frame_code.specs.Stands.{saved_number, number_at}

@@ -20,10 +20,10 @@ use Rattle.mir.specs.declared.places.Places.{Places}
 use Rattle.mir_play.specs.Play.{State, by_inst, step, step_at, first, enter, walk}
 use Rattle.good_code.specs.Runs.{entry_at}
 use Rattle.good_code.proofs.BySteps.{Advances, Onward, Asked, Resumed, Stopped, DoesEach, runs_as}
-use Rattle.quick_code.specs.Code.{prologue, lowered_code}
-use Rattle.quick_code.specs.Labels.{StandsAs, StandEverywhere}
-use Rattle.quick_code.proofs.Labelled.{plain-apart}
-use Rattle.quick_code.proofs.Entry.{overflows, lowered-short}
+use Rattle.code_pieces.specs.Code.{prologue, lowered_code}
+use Rattle.code_pieces.specs.Labels.{StandsAs, StandEverywhere}
+use Rattle.code_pieces.proofs.Labelled.{plain-apart}
+use Rattle.code_pieces.proofs.Entry.{overflows, lowered-short}
 use Rattle.frame_code.specs.Frame.{used}
 use Rattle.frame_code.specs.Code.{save_code, entry_code, blocks_items, function_items}
 use Rattle.frame_code.specs.Stands.{Here, left}

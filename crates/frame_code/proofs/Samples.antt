@@ -7,8 +7,8 @@ use Rattle.rv_asm.specs.declared.item.Form.{Form}
 use Rattle.rv_asm.specs.declared.item.Form.TheVariants.{Short}
 use Rattle.rv_asm.specs.Code.{Code}
 use Rattle.rv_asm.specs.Layout.{item_of, in_short, AreNoLonger, AreFirst, way, laid}
-use Rattle.quick_code.specs.Code.{lowered_code, store_at, load_at, raised_code}
-use Rattle.quick_code.specs.Assembly.{put}
+use Rattle.code_pieces.specs.Code.{lowered_code, store_at, load_at, raised_code}
+use Rattle.code_pieces.specs.Assembly.{put}
 use Rattle.frame_code.specs.Code.{give_back}
 use Rattle.frame_code.specs.Assembly.{code_of}
 use Rattle.frame_code.specs.Samples.{twice, in_s0, words, TwiceIsLaidOut}

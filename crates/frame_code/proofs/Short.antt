@@ -11,9 +11,9 @@ use Rattle.rv_core.specs.declared.instr.Instr.TheVariants as rv
 use Rattle.abi.specs.Frame.{slot_place}
 use Rattle.mir.specs.declared.places.Place.{Place}
 use Rattle.mir.specs.declared.places.Place.TheVariants.{Saved, Slot}
-use Rattle.quick_code.specs.Code.{const_code, store_at}
-use Rattle.quick_code.proofs.Const.{const-short}
-use Rattle.quick_code.proofs.Slots.{load-short, store-short}
+use Rattle.code_pieces.specs.Code.{const_code, store_at}
+use Rattle.code_pieces.proofs.Const.{const-short}
+use Rattle.code_pieces.proofs.Slots.{load-short, store-short}
 use Rattle.frame_code.specs.Frame.{saved_reg}
 use Rattle.frame_code.specs.Code.{held_in, fetch, keep, load_place, store_place, op_code, imm_code, number_code, move_code}
 

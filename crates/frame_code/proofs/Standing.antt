@@ -22,7 +22,7 @@ use Rattle.mir.specs.Live.{ReadFrom, goes_on, Covers}
 use Rattle.mir.specs.Places.{place_of, IsPlace, Fits}
 use Rattle.mir_play.specs.Play.{State}
 use Rattle.mir_play.specs.Machine.{IsHeld}
-use Rattle.quick_code.proofs.Const.{eq-true, self-eq}
+use Rattle.code_pieces.proofs.Const.{eq-true, self-eq}
 use Rattle.frame_code.specs.Frame.{slots_of, save_offset, ra_offset, uses}
 use Rattle.frame_code.specs.Code.{taken_by, taken_in, taken}
 use Rattle.frame_code.specs.Stands.{saved_number, number_at, Keeps, HoldsRead, HoldsArguments, IsLong, Stands}

@@ -30,13 +30,13 @@ use Rattle.mir_play.specs.Play.{State, by_inst, step_at, step, divided, give}
 use Rattle.mir_play.specs.Machine.{IsHeld}
 use Rattle.mir_play.proofs.Holding.{values_hold}
 use Rattle.walks.specs.Refines.{RefinesBits}
-use Rattle.quick_code.specs.Code.{argument_reg}
-use Rattle.quick_code.proofs.Cuts.{read-is}
-use Rattle.quick_code.proofs.Frame.{argument-number}
+use Rattle.code_pieces.specs.Code.{argument_reg}
+use Rattle.code_pieces.proofs.Const.{read-is}
+use Rattle.code_pieces.proofs.Frame.{argument-number}
 use Rattle.good_code.proofs.BySteps.{Advances, Onward}
-use Rattle.quick_code.specs.Blocks.{Item, plain}
-use Rattle.quick_code.specs.Labels.{StandsAs}
-use Rattle.quick_code.proofs.Labelled.{plain-apart}
+use Rattle.code_pieces.specs.Items.{Item, plain}
+use Rattle.code_pieces.specs.Labels.{StandsAs}
+use Rattle.code_pieces.proofs.Labelled.{plain-apart}
 use Rattle.frame_code.specs.Frame.{slots_of}
 use Rattle.frame_code.specs.Code.{taken_by, inst_items, insts_items, blocks_items, store_place, op_code, imm_code, number_code, move_code}
 use Rattle.frame_code.specs.Stands.{number_at, Stands, Here, left}

@@ -49,13 +49,13 @@ use Rattle.mir_play.specs.Machine.{IsHeld}
 use Rattle.mir_play.proofs.Holding.{values_hold}
 use Rattle.good_code.specs.Runs.{register, HoldBits, AtCall, AtReturn}
 use Rattle.good_code.proofs.BySteps.{Advances, Onward, Asked, Resumed, Stopped}
-use Rattle.quick_code.specs.Code.{argument_reg, const_code, load_at, store_at, call_code, leave_code}
-use Rattle.quick_code.specs.Data.{taken_bytes, move_code as copy_code, fill_code}
-use Rattle.quick_code.specs.Blocks.{Item, plain}
-use Rattle.quick_code.specs.Labels.{StandsAs}
-use Rattle.quick_code.proofs.Const.{Puts, put, puts-one, read-put, const-puts, const-short, write-is}
-use Rattle.quick_code.proofs.Cuts.{read-is}
-use Rattle.quick_code.proofs.Slots.{other-register, loads-at, load-short}
+use Rattle.code_pieces.specs.Code.{argument_reg, const_code, load_at, store_at, call_code, leave_code}
+use Rattle.code_pieces.specs.Bytes.{taken_bytes, move_code as copy_code, fill_code}
+use Rattle.code_pieces.specs.Items.{Item, plain}
+use Rattle.code_pieces.specs.Labels.{StandsAs}
+use Rattle.code_pieces.proofs.Const.{Puts, put, puts-one, read-put, const-puts, const-short, write-is}
+use Rattle.code_pieces.proofs.Const.{read-is}
+use Rattle.code_pieces.proofs.Slots.{other-register, loads-at, load-short}
 use Rattle.frame_code.specs.Frame.{slots_of, saved_reg, save_offset, ra_offset, uses, used, used_from}
 use Rattle.frame_code.specs.Code.{held_in, fetch, keep, load_place, store_place, load_code, store_code, bytes_code, restore_code, give_back, taken_by, taken_in, taken, take_code, arguments_code, answer_code, result_code, inst_items, insts_items, blocks_items}
 use Rattle.frame_code.specs.Stands.{saved_number, number_at, Keeps, Stands, Here, left}
@@ -74,7 +74,7 @@ use Rattle.frame_code.proofs.Placed.{dropped, live-placed}
 use Rattle.ir_meaning.specs.Value.{Byte}
 use Rattle.rv_play.specs.CodePlay.{Overflows}
 use Rattle.walks.specs.Walk.{Wants}
-use Rattle.quick_code.proofs.DataMemory.{get-front, get-back, no-byte}
+use Rattle.code_pieces.proofs.Memories.{get-front, get-back, no-byte}
 
 pub taken-is : (bytes : ℕ) → ((bytes < 2 ^ 32) × (taken_bytes bytes ≡ bytes)) ⊎ ((2 ^ 32 ≤ bytes) × (taken_bytes bytes ≡ 2 ^ 32))
 taken-is bytes = by_test (nat_lt bytes (2 ^ 32)) refl

@@ -2,7 +2,7 @@
 use Rattle.std.specs.Prelude.{◌≡◌, ℕ, ◌≤◌, List, length}
 use Rattle.rv_asm.specs.Code.{Code}
 use Rattle.rv_asm.specs.Layout.{IsAssembly}
-use Rattle.quick_code.specs.Assembly.{put, labelled}
+use Rattle.code_pieces.specs.Assembly.{put, labelled}
 use Rattle.mir.specs.declared.code.MFunction.{MFunction}
 use Rattle.mir.specs.declared.places.Places.{Places}
 use Rattle.frame_code.specs.Code.{function_items}

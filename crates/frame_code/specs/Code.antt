@@ -21,9 +21,9 @@ use Rattle.mir.specs.declared.places.Places.{Places}
 use Rattle.mir.specs.Code.{block_of}
 use Rattle.mir.specs.Places.{place_of}
 use Rattle.walks.specs.Face.{frame_of}
-use Rattle.quick_code.specs.Code.{negative, argument_reg, load_at, store_at, const_code, call_code, prologue, leave_code}
-use Rattle.quick_code.specs.Data.{taken_bytes, move_code as copy_code, fill_code}
-use Rattle.quick_code.specs.Blocks.{Item, Plain, Bind, Goto, Test, plain}
+use Rattle.code_pieces.specs.Code.{negative, argument_reg, load_at, store_at, const_code, call_code, prologue, leave_code}
+use Rattle.code_pieces.specs.Bytes.{taken_bytes, move_code as copy_code, fill_code}
+use Rattle.code_pieces.specs.Items.{Item, Plain, Bind, Goto, Test, plain}
 use Rattle.frame_code.specs.Frame.{saved_reg, save_offset, used}
 
 -- ---- places

@@ -25,7 +25,7 @@ use Rattle.mir.specs.Live.{Covers}
 use Rattle.mir.specs.Places.{Fits}
 use Rattle.mir_play.specs.Play.{State, step, walk}
 use Rattle.mir_play.specs.Refines.{static_weight, IsCompiled}
-use Rattle.quick_code.specs.Labels.{StandsAs, StandEverywhere}
+use Rattle.code_pieces.specs.Labels.{StandsAs, StandEverywhere}
 use Rattle.good_code.specs.Runs.{RunsAs}
 use Rattle.frame_code.specs.Frame.{slots_of}
 use Rattle.frame_code.specs.Code.{insts_items, blocks_items, function_items}

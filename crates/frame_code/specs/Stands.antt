@@ -24,7 +24,7 @@ use Rattle.mir.specs.Live.{ReadFrom}
 use Rattle.mir.specs.Places.{place_of}
 use Rattle.mir_play.specs.Play.{State}
 use Rattle.mir_play.specs.Machine.{IsHeld}
-use Rattle.quick_code.specs.Labels.{StandsAs}
+use Rattle.code_pieces.specs.Labels.{StandsAs}
 use Rattle.frame_code.specs.Frame.{saved_reg, ra_offset, save_offset, uses}
 use Rattle.frame_code.specs.Code.{taken_in, taken, insts_items, blocks_items}
 

@@ -17,11 +17,11 @@ use Rattle.walks.specs.Walk.{Bits, Reply, Does, Goes, Wants}
 use Rattle.walks.specs.Bits.{free, constant, cut}
 use Rattle.walks.specs.Refines.{RefinesBits}
 use Rattle.walks.proofs.Compose.{same_bits, bits_compose}
-use Rattle.quick_code.specs.Code.{prologue, call_code, leave_code, lowered_code, store_at, load_at, raised_code}
-use Rattle.quick_code.proofs.Frame.{Holds, saved_regs, keeps-last}
-use Rattle.quick_code.proofs.Entry.{overflows, opens, lowered-short}
-use Rattle.quick_code.proofs.Calling.{call_point, call-runs, hold-call, hold-resumed}
-use Rattle.quick_code.proofs.Ends.{leaves, leave-short}
+use Rattle.code_pieces.specs.Code.{prologue, call_code, leave_code, lowered_code, store_at, load_at, raised_code}
+use Rattle.code_pieces.proofs.Frame.{Holds, saved_regs, keeps-last}
+use Rattle.code_pieces.proofs.Entry.{overflows, opens, lowered-short}
+use Rattle.code_pieces.proofs.Calling.{call_point, call-runs, hold-call, hold-resumed}
+use Rattle.code_pieces.proofs.Ends.{leaves, leave-short}
 use Rattle.good_code.specs.Runs.{register, registers_of, entry_at, AtReturn}
 use Rattle.good_code.proofs.BySteps.{Advances, Onward, Asked, Stopped, runs_as}
 use Rattle.mir.specs.declared.code.MInst.{MInst}

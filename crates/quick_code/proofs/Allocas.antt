@@ -21,12 +21,13 @@ use Rattle.ir_meaning.specs.Plays.{Meaning, Invocation}
 use Rattle.rv_play.specs.Machine.{Machine, On, code_base, code_limit, control_base, control_end, data_base}
 use Rattle.rv_play.specs.CodePlay.{Place, Point, Overflows, CodeReply, code_run}
 use Rattle.rv_play.proofs.Lines.{Stands, stands-apart, Goes, goes-then, one-step, plain-step, moved}
-use Rattle.quick_code.specs.Code.{load_at, store_at, store_value, const_code}
-use Rattle.quick_code.specs.Data.{is_alloca, insts_take, blocks_take, save_code, restore_code, taken_bytes, alloca_code}
-use Rattle.quick_code.proofs.Const.{put, puts-one, const-puts, const-short}
-use Rattle.quick_code.proofs.Slots.{load-short, store-short}
-use Rattle.quick_code.proofs.Frame.{Holds, scratch-t0, scratch-t1, hold-put, hold-store, store-goes}
-use Rattle.quick_code.proofs.DataMemory.{get-front, get-back, no-byte}
+use Rattle.code_pieces.specs.Code.{load_at, store_at, store_value, const_code}
+use Rattle.code_pieces.specs.Bytes.{save_code, restore_code, taken_bytes}
+use Rattle.quick_code.specs.Data.{is_alloca, insts_take, blocks_take, alloca_code}
+use Rattle.code_pieces.proofs.Const.{put, puts-one, const-puts, const-short}
+use Rattle.code_pieces.proofs.Slots.{load-short, store-short}
+use Rattle.code_pieces.proofs.Frame.{Holds, scratch-t0, scratch-t1, hold-put, hold-store, store-goes}
+use Rattle.code_pieces.proofs.Memories.{get-front, get-back, no-byte}
 
 -- so many bytes or as good as so many
 taken-is : (bytes : ℕ) → ((bytes < 2 ^ 32) × (taken_bytes bytes ≡ bytes)) ⊎ ((2 ^ 32 ≤ bytes) × (taken_bytes bytes ≡ 2 ^ 32))

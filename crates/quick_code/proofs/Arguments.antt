@@ -25,12 +25,12 @@ use Rattle.rv_play.specs.Machine.{Machine, code_base, code_limit, control_base, 
 use Rattle.rv_play.specs.CodePlay.{Place, Point}
 use Rattle.rv_play.specs.Good.{IsRegs, RefinesValue, RefinesResult, RefinesArgs}
 use Rattle.rv_play.proofs.Lines.{Stands, stands-apart, Goes, goes-then, goes-none}
-use Rattle.quick_code.specs.Code.{argument_reg, store_value}
+use Rattle.code_pieces.specs.Code.{argument_reg, store_value}
 use Rattle.quick_code.specs.Narrow.{zero_extended}
 use Rattle.quick_code.specs.Blocks.{arguments_code, answer_code}
-use Rattle.quick_code.proofs.Const.{put, read-put}
-use Rattle.quick_code.proofs.Frame.{Is, Holds, scratch-argument, argument-number, hold-put, hold-store, store-goes}
-use Rattle.quick_code.proofs.Slots.{store-short, other-register}
+use Rattle.code_pieces.proofs.Const.{put, read-put}
+use Rattle.code_pieces.proofs.Frame.{Is, Holds, scratch-argument, argument-number, hold-put, hold-store, store-goes}
+use Rattle.code_pieces.proofs.Slots.{store-short, other-register}
 use Rattle.quick_code.proofs.Refines.{Reads}
 use Rattle.quick_code.proofs.Cuts.{cut-puts, cut-short}
 use Rattle.quick_code.proofs.Numbers.{width-small, width-some}

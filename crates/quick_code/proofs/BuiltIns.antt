@@ -28,7 +28,7 @@ use Rattle.rv_play.specs.Machine.{Machine, code_base, code_limit, control_base, 
 use Rattle.rv_play.specs.CodePlay.{Place, Point}
 use Rattle.rv_play.proofs.Lines.{Stands}
 use Rattle.quick_code.specs.Narrow.{zero_extended, sign_extended, taken_second, built_in_code, after_all, Turns}
-use Rattle.quick_code.proofs.Frame.{Is, Holds}
+use Rattle.code_pieces.proofs.Frame.{Is, Holds}
 use Rattle.quick_code.proofs.Narrow.{sign-read, cut-modulo, positive, negative}
 use Rattle.quick_code.proofs.NarrowCode.{turns-then, turns-to, written-other, kept, number, signs-first, signs-second, cuts, modulo-below, below-64, is-width}
 use Rattle.quick_code.proofs.NarrowRuns.{AreSteps, zero-run, sign-run, both-run, zero-short, sign-short}

@@ -1,18 +1,18 @@
 -- The code that cuts a register to a width.
-use Rattle.std.proofs.Common.{◌≡◌, ◌≢◌, refl, sym, ap, subst, ◌∙◌, ℕ, ◌+◌, ◌-◌, ◌*◌, ◌%◌, ◌^◌, ◌<◌, ◌≤◌, [], ◌∷◌, length, Bool, true, false, cond, arith, mod-eq_of_lt}
+use Rattle.std.proofs.Common.{◌≡◌, ◌≢◌, refl, sym, ap, subst, ◌∙◌, ℕ, ◌+◌, ◌-◌, ◌*◌, ◌%◌, ◌^◌, ◌<◌, ◌≤◌, ◌∷◌, length, Bool, true, false, cond, arith, mod-eq_of_lt}
 use Rattle.std.specs.Prelude.{◌==◌, nat_le, pos}
 use Rattle.rv_core.specs.Reg.{number_of}
 use Rattle.rv_core.specs.declared.reg.Reg.{Reg}
 use Rattle.rv_core.specs.declared.instr.ImmOp.TheVariants.{Andi, Slli, Srli}
 use Rattle.rv_core.specs.declared.instr.RegOp.TheVariants.{And, Sll, Srl}
 use Rattle.rv_core.specs.declared.instr.Instr.TheVariants.{Imm}
-use Rattle.rv_core.specs.Step.{Registers, read, written, modulo, op_value}
+use Rattle.rv_core.specs.Step.{read, written, modulo, op_value}
 use Rattle.ir_meaning.specs.Plays.{Meaning}
 use Rattle.rv_play.specs.Machine.{code_base, code_limit}
 use Rattle.rv_play.specs.CodePlay.{Place, Point}
 use Rattle.rv_play.proofs.Lines.{Goes, goes-none}
 use Rattle.quick_code.specs.Narrow.{zero_extended}
-use Rattle.quick_code.proofs.Const.{put, Puts, puts-one, puts-then, puts-if, read-put, functions-equal, eq-true}
+use Rattle.code_pieces.proofs.Const.{read-is, put, Puts, puts-one, puts-then, puts-if, read-put, functions-equal, eq-true}
 use Rattle.quick_code.proofs.Narrow.{cut-by-shifts}
 use Rattle.quick_code.proofs.NarrowCode.{is-width, full, mask-is}
 
@@ -27,13 +27,6 @@ cut-short w rd = whole (w == 64)
     whole : (b : Bool) → length (cond b [] (cond (nat_le w 11) (Imm Andi rd rd (pos (2 ^ w - 1)) ∷ []) (Imm Slli rd rd (pos (64 - w)) ∷ Imm Srli rd rd (pos (64 - w)) ∷ []))) ≤ 2
     whole true = omega arith
     whole false = masked (nat_le w 11)
-
-pub read-is : (s : Registers) (rd : Reg) → number_of rd ≢ 0 → read s rd ≡ s.x (number_of rd)
-read-is s rd nz = ap (λ (b : Bool). cond b 0 (s.x (number_of rd))) (not-first (number_of rd == 0) refl)
-  where
-    not-first : (b : Bool) → (number_of rd == 0) ≡ b → b ≡ false
-    not-first true e = absurd (nz (eq-true (number_of rd) 0 e))
-    not-first false e = refl
 
 written-same : (f : ℕ → ℕ) (i v : ℕ) → v ≡ f i → written f i v ≡ f
 written-same f i v same = functions-equal (λ j. at j (j == i) refl)

@@ -1,5 +1,5 @@
 -- Loads and stores of data memory do what they mean.
-use Rattle.std.proofs.Common.{◌≡◌, refl, sym, ap, subst, ◌∙◌, ℕ, zero, suc, ◌+◌, ◌-◌, ◌*◌, ◌/◌, ◌%◌, ◌^◌, ◌<◌, ◌≤◌, ◌⊎◌, inl, inr, List, [], ◌∷◌, ◌++◌, length, replicate, Some, None, Bool, true, false, cond, arith}
+use Rattle.std.proofs.Common.{◌≡◌, refl, sym, ap, subst, ◌∙◌, ℕ, zero, suc, ◌+◌, ◌-◌, ◌*◌, ◌/◌, ◌%◌, ◌^◌, ◌<◌, ◌≤◌, ◌⊎◌, inl, inr, List, ◌∷◌, ◌++◌, length, Some, None, Bool, true, false, cond, arith}
 use Rattle.std.specs.Prelude.{◌==◌, ◌&&◌, ◌||◌, nat_le, pos, slice_get, take, drop}
 use Rattle.std.proofs.Math.Nat.{pow-succ', div-div-eq-div-mul}
 use Rattle.std.proofs.lemmas.Bool.{cases_lt, le-leb, and_parts, eqb-true}
@@ -26,9 +26,10 @@ use Rattle.rv_play.specs.CodePlay.{Place, Point}
 use Rattle.rv_play.specs.Good.{RefinesMemory}
 use Rattle.rv_play.proofs.Lines.{Stands, Goes, plain-step, moved, next-regs}
 use Rattle.quick_code.specs.Operations.{load_op, store_op}
-use Rattle.quick_code.proofs.Const.{put, write-is}
-use Rattle.quick_code.proofs.Frame.{Is, Holds, scratch-t0, hold-put}
+use Rattle.code_pieces.proofs.Const.{put, write-is}
+use Rattle.code_pieces.proofs.Frame.{Is, Holds, scratch-t0, hold-put}
 use Rattle.quick_code.proofs.Operations.{Worked}
+use Rattle.code_pieces.proofs.Memories.{get-front, get-back, get-take, get-drop, no-byte}
 
 -- ---- bytes of a memory
 
@@ -61,34 +62,6 @@ pub load-is : (memory : Memory) (f : ℕ → ℕ) (count a : ℕ) → data_base 
 load-is memory f count a low high h = loaded-is memory f count (a - data_base) a (omega (arith, low)) (omega (arith, low, high)) h
 
 -- ---- bytes behind a store
-
-pub get-front : (xs ys : Memory) (i : ℕ) → i < length xs → slice_get (xs ++ ys) i ≡ slice_get xs i
-get-front [] ys i lt = absurd (let bad : ⊥ = omega (arith, lt) in bad)
-get-front (x ∷ xs) ys zero lt = refl
-get-front (x ∷ xs) ys (suc i) lt = get-front xs ys i (omega (arith, lt))
-
-pub get-back : (xs ys : Memory) (i k : ℕ) → i ≡ length xs + k → slice_get (xs ++ ys) i ≡ slice_get ys k
-get-back [] ys i k e = ap (slice_get ys) (let z : i ≡ k = omega (arith, e) in z)
-get-back (x ∷ xs) ys zero k e = absurd (let bad : ⊥ = omega (arith, e) in bad)
-get-back (x ∷ xs) ys (suc i) k e = get-back xs ys i k (omega (arith, e))
-
-pub get-take : (xs : Memory) (n i : ℕ) → i < n → slice_get (take n xs) i ≡ slice_get xs i
-get-take [] zero i lt = refl
-get-take [] (suc n) i lt = refl
-get-take (x ∷ xs) zero i lt = absurd (let bad : ⊥ = omega (arith, lt) in bad)
-get-take (x ∷ xs) (suc n) zero lt = refl
-get-take (x ∷ xs) (suc n) (suc i) lt = get-take xs n i (omega (arith, lt))
-
-pub get-drop : (xs : Memory) (n i : ℕ) → slice_get (drop n xs) i ≡ slice_get xs (n + i)
-get-drop [] zero i = refl
-get-drop [] (suc n) i = refl
-get-drop (x ∷ xs) zero i = ap (slice_get (x ∷ xs)) (let z : i ≡ 0 + i = omega arith in z)
-get-drop (x ∷ xs) (suc n) i = get-drop xs n i ∙ ap (slice_get (x ∷ xs)) (let z : suc (n + i) ≡ suc n + i = omega arith in z)
-
-pub no-byte : (count j b : ℕ) (v : Byte) → v ≡ None → slice_get (replicate count v) j ≡ Some (Some b) → ⊥
-no-byte zero j b v e h = let bad : ⊥ = cc in bad
-no-byte (suc count) zero b v e h = let bad : ⊥ = cc in bad
-no-byte (suc count) (suc j) b v e h = no-byte count j b v e h
 
 number-byte : (count n j b : ℕ) → slice_get (number_bytes count n) j ≡ Some (Some b) → n / 256 ^ j % 256 ≡ b
 number-byte zero n j b h = absurd (let bad : ⊥ = cc in bad)

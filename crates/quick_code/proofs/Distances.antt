@@ -23,7 +23,7 @@ use Rattle.rv_play.specs.Machine.{Machine, code_base, code_limit, control_base, 
 use Rattle.rv_play.specs.CodePlay.{Place, Point}
 use Rattle.rv_play.proofs.Lines.{Stands, stands-apart, goes-then}
 use Rattle.quick_code.specs.Parts.{Piece, Bytes, sized, literal, of_field, times_code, bytes_code, parts_code, piece, pieces_into, pieces, bytes_in, pieces_code, is_index, is_literal, is_step, are_steps, is_path, AreSmall}
-use Rattle.quick_code.proofs.Frame.{Is, Holds}
+use Rattle.code_pieces.proofs.Frame.{Is, Holds}
 use Rattle.quick_code.proofs.Numbers.{width-small, width-some, operand-inside}
 use Rattle.quick_code.proofs.Typing.{integer-value}
 use Rattle.quick_code.proofs.Operations.{Worked}

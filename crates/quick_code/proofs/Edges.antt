@@ -27,12 +27,12 @@ use Rattle.rv_play.specs.CodePlay.{Place, Point}
 use Rattle.rv_play.specs.Good.{RefinesMemory}
 use Rattle.rv_play.proofs.Lines.{Stands, stands-apart, Goes, goes-then, goes-none}
 use Rattle.quick_code.specs.Operations.{IsSlotOperand, value_code}
-use Rattle.quick_code.specs.Code.{store_value}
+use Rattle.code_pieces.specs.Code.{store_value}
 use Rattle.quick_code.specs.Blocks.{load_next, store_next, next_code, next_of, nexts_code, phis_code}
-use Rattle.quick_code.specs.Labels.{Hops}
-use Rattle.quick_code.proofs.Const.{put}
-use Rattle.quick_code.proofs.Slots.{Alters, Saves, loads-at, saves-at, load-short, store-short}
-use Rattle.quick_code.proofs.Frame.{Is, Holds, IsScratch, scratch-t0, saved_regs, keeps-then, keeps-others, hold-put, hold-store, store-goes}
+use Rattle.code_pieces.specs.Labels.{Hops}
+use Rattle.code_pieces.proofs.Const.{put}
+use Rattle.code_pieces.proofs.Slots.{Alters, Saves, loads-at, saves-at, load-short, store-short}
+use Rattle.code_pieces.proofs.Frame.{Is, Holds, IsScratch, scratch-t0, saved_regs, keeps-then, keeps-others, hold-put, hold-store, store-goes}
 use Rattle.quick_code.proofs.Operations.{value-short, value-brings}
 
 -- what a phi takes from a block

@@ -42,20 +42,22 @@ use Rattle.rv_play.specs.Ending.{upper}
 use Rattle.rv_play.specs.CodePlay.{Place, Point, CodeReply, code_run, place_of, resume}
 use Rattle.rv_play.specs.Good.{IsBase, Enters, RefinesResult, AtCall, arg_regs}
 use Rattle.rv_play.proofs.Lines.{Stands, stands-apart}
-use Rattle.quick_code.specs.Code.{call_code}
+use Rattle.code_pieces.specs.Code.{call_code}
 use Rattle.quick_code.specs.Data.{takes_data}
 use Rattle.quick_code.specs.Parts.{pieces, is_path, AreSmall}
 use Rattle.quick_code.specs.Operations.{value_code, values_code}
-use Rattle.quick_code.specs.Blocks.{is_headless, first_to, case_label, case_edge, case_edges, are_headless, switch_edges, cases_items, Item, Goto, Test, Bind, plain, nexts_code, phis_code, block_label, edge_label, edge_code, edge_items, last_edge_items, answer_code, op_items, insts_items}
-use Rattle.quick_code.specs.Labels.{Hops, StandsAs}
+use Rattle.code_pieces.specs.Items.{Item, Goto, Test, Bind, plain}
+use Rattle.quick_code.specs.Blocks.{is_headless, first_to, case_label, case_edge, case_edges, are_headless, switch_edges, cases_items, nexts_code, phis_code, block_label, edge_label, edge_code, edge_items, last_edge_items, answer_code, op_items, insts_items}
+use Rattle.code_pieces.specs.Labels.{Hops, StandsAs}
 use Rattle.quick_code.specs.Forms.{IsForm, IsFlow, IsJump}
-use Rattle.quick_code.proofs.Slots.{other-register}
-use Rattle.quick_code.proofs.Frame.{Holds, scratch-t0, scratch-t1}
+use Rattle.code_pieces.proofs.Slots.{other-register}
+use Rattle.code_pieces.proofs.Frame.{Holds, scratch-t0, scratch-t1}
 use Rattle.quick_code.proofs.Operations.{AreIn, scratch-arguments, value-short, values-short, value-brings, values-bring}
 use Rattle.quick_code.proofs.Arguments.{answer-goes, answer-short}
-use Rattle.quick_code.proofs.Calling.{call_point, call-runs, hold-call, hold-resumed}
+use Rattle.code_pieces.proofs.Calling.{call_point, call-runs, hold-call, hold-resumed}
 use Rattle.quick_code.proofs.Refines.{args-refine, arguments-read}
-use Rattle.quick_code.proofs.Labelled.{plain-apart, behind-items, StandsThere}
+use Rattle.code_pieces.proofs.Labelled.{plain-apart, behind-items}
+use Rattle.quick_code.proofs.Labelled.{StandsThere}
 use Rattle.quick_code.proofs.Edges.{hold-hopped, units-some}
 use Rattle.quick_code.proofs.Numbers.{operand-inside, number-inside}
 use Rattle.quick_code.proofs.Typing.{callee-gives, callee-takes, arguments-inside, callee-result, values-of, arguments-many}

@@ -35,18 +35,21 @@ use Rattle.rv_play.specs.Machine.{Machine, control_base, control_end, data_base}
 use Rattle.rv_play.specs.CodePlay.{Place, Point, CodeReply, code_run, place_of}
 use Rattle.rv_play.specs.Good.{RefinesMemory, IsBase, Enters}
 use Rattle.rv_play.proofs.Lines.{Stands, stands-apart}
-use Rattle.quick_code.specs.Data.{takes_data, move_code, fill_code}
+use Rattle.code_pieces.specs.Bytes.{move_code, fill_code}
+use Rattle.quick_code.specs.Data.{takes_data}
 use Rattle.quick_code.specs.Operations.{AreSlotOperands, values_code}
-use Rattle.quick_code.specs.Blocks.{Item, plain, op_items, insts_items}
-use Rattle.quick_code.specs.Labels.{StandsAs}
+use Rattle.code_pieces.specs.Items.{Item, plain}
+use Rattle.quick_code.specs.Blocks.{op_items, insts_items}
+use Rattle.code_pieces.specs.Labels.{StandsAs}
 use Rattle.quick_code.specs.Forms.{IsFlow}
-use Rattle.quick_code.proofs.Frame.{Is, Holds}
+use Rattle.code_pieces.proofs.Frame.{Is, Holds}
 use Rattle.quick_code.proofs.Operations.{scratch-temporaries, values-short, values-bring}
-use Rattle.quick_code.proofs.Labelled.{plain-apart, StandsThere}
+use Rattle.code_pieces.proofs.Labelled.{plain-apart}
+use Rattle.quick_code.proofs.Labelled.{StandsThere}
 use Rattle.quick_code.proofs.Edges.{units-some}
 use Rattle.quick_code.proofs.Numbers.{operand-inside}
-use Rattle.quick_code.proofs.Moving.{move-goes, move-none, fill-goes, fill-none, Through}
-use Rattle.quick_code.proofs.Moved.{copy-refines, fill-refines, hold-behind as hold-moved}
+use Rattle.code_pieces.proofs.Moving.{move-goes, move-none, fill-goes, fill-none, Through}
+use Rattle.code_pieces.proofs.Moved.{copy-refines, fill-refines, hold-behind as hold-moved}
 use Rattle.quick_code.proofs.Simulation.{Onward, Advances}
 use Rattle.quick_code.proofs.FlowState.{bottom as any-bottom, top as any-top, Here as AnyHere, typed-at as any-typed-at, code-at as any-code-at}
 use Rattle.quick_code.proofs.FlowValues.{does-it as any-does-it, fits-at as any-fits-at, built_in-step as any-built_in-step}

@@ -31,19 +31,22 @@ use Rattle.rv_play.specs.Machine.{Machine, control_base, control_end, data_base}
 use Rattle.rv_play.specs.CodePlay.{Place, Point, CodeReply, code_run, place_of}
 use Rattle.rv_play.specs.Good.{IsBase, Enters, RefinesResult}
 use Rattle.rv_play.proofs.Lines.{Stands, stands-apart}
-use Rattle.quick_code.specs.Code.{leave_code, load_at}
-use Rattle.quick_code.specs.Data.{takes_data, restore_code}
+use Rattle.code_pieces.specs.Code.{leave_code, load_at}
+use Rattle.code_pieces.specs.Bytes.{restore_code}
+use Rattle.quick_code.specs.Data.{takes_data}
 use Rattle.quick_code.specs.Operations.{IsSlotOperand, AreSlotOperands, value_code, values_code}
-use Rattle.quick_code.specs.Blocks.{Item, Goto, Test, Bind, plain, nexts_code, phis_code, block_label, edge_label, edge_code, edge_items, last_edge_items, branch_items, return_code, op_items, insts_items}
-use Rattle.quick_code.specs.Labels.{Hops, StandsAs}
+use Rattle.code_pieces.specs.Items.{Item, Goto, Test, Bind, plain}
+use Rattle.quick_code.specs.Blocks.{nexts_code, phis_code, block_label, edge_label, edge_code, edge_items, last_edge_items, branch_items, return_code, op_items, insts_items}
+use Rattle.code_pieces.specs.Labels.{Hops, StandsAs}
 use Rattle.quick_code.specs.Forms.{IsFlow, IsJump}
-use Rattle.quick_code.proofs.Const.{put}
-use Rattle.quick_code.proofs.Slots.{load-short, loads-at}
-use Rattle.quick_code.proofs.Frame.{Is, Holds, saved_regs, keeps-last, scratch-t0, scratch-argument}
+use Rattle.code_pieces.proofs.Const.{put}
+use Rattle.code_pieces.proofs.Slots.{load-short, loads-at}
+use Rattle.code_pieces.proofs.Frame.{Is, Holds, saved_regs, keeps-last, scratch-t0, scratch-argument}
 use Rattle.quick_code.proofs.Operations.{value-short, value-brings}
 use Rattle.quick_code.proofs.Refines.{refines-take, result-refines}
-use Rattle.quick_code.proofs.Ends.{leaves, leave-short}
-use Rattle.quick_code.proofs.Labelled.{plain-apart, behind-items, StandsThere}
+use Rattle.code_pieces.proofs.Ends.{leaves, leave-short}
+use Rattle.code_pieces.proofs.Labelled.{plain-apart, behind-items}
+use Rattle.quick_code.proofs.Labelled.{StandsThere}
 use Rattle.quick_code.proofs.Edges.{AreReady, nexts-go, phis-go, hold-hopped, next-hopped, phis-length, units-some, units-many}
 use Rattle.quick_code.proofs.Numbers.{width-small, operand-inside, number-inside, number-next, value-below, gives-some, phis-stand}
 use Rattle.quick_code.proofs.Typing.{phi-typed, phi-form, nothing-behind}

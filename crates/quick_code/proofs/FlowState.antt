@@ -21,10 +21,11 @@ use Rattle.rv_play.specs.Machine.{Machine, control_base, control_end}
 use Rattle.rv_play.specs.CodePlay.{Place, Point, place_of}
 use Rattle.rv_play.specs.Good.{IsBase, Enters}
 use Rattle.quick_code.specs.Data.{takes_data}
-use Rattle.quick_code.specs.Blocks.{Item, op_items, insts_items}
-use Rattle.quick_code.specs.Labels.{StandsAs}
+use Rattle.code_pieces.specs.Items.{Item}
+use Rattle.quick_code.specs.Blocks.{op_items, insts_items}
+use Rattle.code_pieces.specs.Labels.{StandsAs}
 use Rattle.quick_code.specs.Forms.{IsFlow}
-use Rattle.quick_code.proofs.Frame.{Holds}
+use Rattle.code_pieces.proofs.Frame.{Holds}
 use Rattle.quick_code.proofs.Labelled.{StandsThere, Comes}
 use Rattle.quick_code.proofs.Numbers.{drop-get}
 use Rattle.quick_code.proofs.Simulation.{Advances}

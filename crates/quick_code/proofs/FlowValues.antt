@@ -45,22 +45,24 @@ use Rattle.rv_play.specs.Machine.{Machine, control_base, control_end}
 use Rattle.rv_play.specs.CodePlay.{Place, Point, code_run, place_of}
 use Rattle.rv_play.specs.Good.{IsBase, Enters}
 use Rattle.rv_play.proofs.Lines.{Stands, stands-apart}
-use Rattle.quick_code.specs.Code.{store_value}
+use Rattle.code_pieces.specs.Code.{store_value}
 use Rattle.quick_code.specs.Data.{takes_data, alloca_code, moved_code}
 use Rattle.quick_code.specs.Narrow.{binary_code, compare_code, cast_code}
 use Rattle.quick_code.specs.Parts.{pieces, is_path, AreSmall}
 use Rattle.quick_code.specs.Operations.{IsSlotOperand, AreSlotOperands, values_code, operands, built_in_operands, work_code, operation_code, store_op, keeping_code}
-use Rattle.quick_code.specs.Blocks.{Item, plain, op_items, insts_items}
-use Rattle.quick_code.specs.Labels.{StandsAs}
+use Rattle.code_pieces.specs.Items.{Item, plain}
+use Rattle.quick_code.specs.Blocks.{op_items, insts_items}
+use Rattle.code_pieces.specs.Labels.{StandsAs}
 use Rattle.quick_code.specs.Forms.{IsFlow}
-use Rattle.quick_code.proofs.Slots.{store-short}
-use Rattle.quick_code.proofs.Frame.{Is, Holds}
+use Rattle.code_pieces.proofs.Slots.{store-short}
+use Rattle.code_pieces.proofs.Frame.{Is, Holds}
 use Rattle.quick_code.proofs.NarrowRuns.{binary-run, compare-run, cast-run}
 use Rattle.quick_code.proofs.Meanings.{binary-means, compare-means, cast-means, binary-keeps, compare-keeps, cast-keeps, keeps-none, to-pointer}
 use Rattle.quick_code.proofs.Operations.{AreIn, Worked, scratch-temporaries, values-short, values-bring, straight-work, choice-work, operation-goes}
 use Rattle.quick_code.proofs.BuiltIns.{built_in-fits, built_in-short, built_in-work}
 use Rattle.quick_code.proofs.Distances.{AreFit, pieces-are, parts-short, parts-work}
-use Rattle.quick_code.proofs.Labelled.{plain-apart, StandsThere}
+use Rattle.code_pieces.proofs.Labelled.{plain-apart}
+use Rattle.quick_code.proofs.Labelled.{StandsThere}
 use Rattle.quick_code.proofs.Edges.{units-some}
 use Rattle.quick_code.proofs.Numbers.{width-small, width-some, operand-inside, number-inside, value-below, gives-some}
 use Rattle.quick_code.proofs.Allocas.{alloca-goes, alloca-stops, block-takes}

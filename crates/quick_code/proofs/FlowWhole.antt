@@ -28,18 +28,21 @@ use Rattle.rv_play.specs.Machine.{Machine, control_base}
 use Rattle.rv_play.specs.CodePlay.{Place, Point, CodeReply, code_run, code_play, place_of, entered as entered_at}
 use Rattle.rv_play.specs.Good.{IsBase, Enters, AreReplies, RefinesEnd, RefinesArgs, RefinesMemory, IsBytes, IsRunning, arg_regs}
 use Rattle.rv_play.proofs.Lines.{Stands, stands-apart}
-use Rattle.quick_code.specs.Code.{lowered_code, store_at, prologue}
-use Rattle.quick_code.specs.Blocks.{Item, plain, phis_code, block_label, block_items, blocks_items, insts_items, arguments_code, function_items}
-use Rattle.quick_code.specs.Data.{takes_data, save_code}
-use Rattle.quick_code.specs.Labels.{StandsAs}
+use Rattle.code_pieces.specs.Code.{lowered_code, store_at, prologue}
+use Rattle.code_pieces.specs.Items.{Item, plain}
+use Rattle.quick_code.specs.Blocks.{phis_code, block_label, block_items, blocks_items, insts_items, arguments_code, function_items}
+use Rattle.code_pieces.specs.Bytes.{save_code}
+use Rattle.quick_code.specs.Data.{takes_data}
+use Rattle.code_pieces.specs.Labels.{StandsAs}
 use Rattle.quick_code.specs.Forms.{IsFlow}
 use Rattle.quick_code.specs.Laws.{FlowCodeIsGood}
-use Rattle.quick_code.proofs.Slots.{saves-at, store-short}
-use Rattle.quick_code.proofs.Frame.{Holds, saved_regs, keeps-then, keeps-others}
+use Rattle.code_pieces.proofs.Slots.{saves-at, store-short}
+use Rattle.code_pieces.proofs.Frame.{Holds, saved_regs, keeps-then, keeps-others}
 use Rattle.quick_code.proofs.Refines.{arguments-read, first-number}
-use Rattle.quick_code.proofs.Entry.{overflows, opens, lowered-short}
+use Rattle.code_pieces.proofs.Entry.{overflows, opens, lowered-short}
 use Rattle.quick_code.proofs.Arguments.{Begun, are-given, arguments-go, arguments-short, args-inside}
-use Rattle.quick_code.proofs.Labelled.{plain-apart, block-stands, StandsThere}
+use Rattle.code_pieces.proofs.Labelled.{plain-apart}
+use Rattle.quick_code.proofs.Labelled.{block-stands, StandsThere}
 use Rattle.quick_code.proofs.FlowState.{Here}
 use Rattle.quick_code.proofs.Flow.{steps}
 use Rattle.quick_code.proofs.Simulation.{Advances, Steps, Begins, OpensAt, OverflowsAt, refines-play, ends-play}

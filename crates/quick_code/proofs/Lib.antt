@@ -1,10 +1,4 @@
-pub mod Const
-pub mod Slots
-pub mod Frame
-pub mod Calling
-pub mod Ends
 pub mod Refines
-pub mod Entry
 pub mod Narrow
 pub mod NarrowCode
 pub mod NarrowCompares
@@ -16,7 +10,6 @@ pub mod BuiltIns
 pub mod Parts
 pub mod DataMemory
 pub mod Allocas
-pub mod Moving
 pub mod Moved
 pub mod Cuts
 pub mod Arguments
@@ -32,8 +25,6 @@ pub mod FlowBytes
 pub mod FlowEdges
 pub mod Flow
 pub mod FlowWhole
-pub mod Bridge
 pub mod Fresh
 pub mod Size
 pub mod Words
-pub mod Hops

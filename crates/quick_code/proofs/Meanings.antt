@@ -22,7 +22,7 @@ use Rattle.ir_meaning.specs.Operators.{width, binary, unsigned_division, signed_
 use Rattle.ir_meaning.specs.Ranges.{FitsWidth}
 use Rattle.ir_meaning.specs.Typed.{IsCast}
 use Rattle.quick_code.specs.Narrow.{zero_extended, sign_extended, binary_code, compare_code, cast_code, after_all}
-use Rattle.quick_code.proofs.Frame.{Is}
+use Rattle.code_pieces.proofs.Frame.{Is}
 use Rattle.quick_code.proofs.NarrowCode.{after-append, given, written-other, binary-computes}
 use Rattle.quick_code.proofs.NarrowCompares.{compare-computes, cast-computes}
 

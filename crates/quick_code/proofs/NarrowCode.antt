@@ -21,7 +21,7 @@ use Rattle.rj_num.specs.Width.{signed, modulo as wrap}
 use Rattle.ir_meaning.specs.Value.{Value, Computed, Gives, NoMeaning, poison_if}
 use Rattle.ir_meaning.specs.Operators.{binary, unsigned_division, signed_division, unsigned_quotient, unsigned_remainder, signed_quotient, signed_remainder, overflows_quotient, shift, shl, lshr, ashr}
 use Rattle.quick_code.specs.Narrow.{zero_extended, sign_extended, binary_code, after_all, Turns}
-use Rattle.quick_code.proofs.Const.{sign-cases}
+use Rattle.code_pieces.proofs.Const.{sign-cases}
 use Rattle.quick_code.proofs.Narrow.{cut-modulo, sign-read, IsWidth, cut-by-shifts, cut-again, sign-by-shifts, sub-is, shl-is, lshr-is, ashr-is, sdiv-is, srem-is, sign-whole}
 
 -- ---- lists of instructions

@@ -24,12 +24,12 @@ use Rattle.ir_meaning.specs.Plays.{Meaning, Invocation}
 use Rattle.rv_play.specs.Machine.{Machine, On, code_base, code_limit, control_base, control_end}
 use Rattle.rv_play.specs.CodePlay.{Place, Point}
 use Rattle.rv_play.proofs.Lines.{Stands, stands-apart, Goes, goes-then, goes-none, plain-step, moved}
-use Rattle.quick_code.specs.Code.{store_value}
+use Rattle.code_pieces.specs.Code.{store_value}
 use Rattle.quick_code.specs.Narrow.{after_all}
 use Rattle.quick_code.specs.Operations.{IsSlotOperand, AreSlotOperands, value_code, values_code, choice_code}
-use Rattle.quick_code.proofs.Const.{put, puts-one, const-puts, const-short, eq-true}
-use Rattle.quick_code.proofs.Frame.{Is, Holds, IsScratch, keeps-then, saved_regs, scratch-t0, scratch-t1, scratch-t2, scratch-argument, argument-number, hold-put, hold-store, store-goes, value-puts, operand-some}
-use Rattle.quick_code.proofs.Slots.{load-short, store-some, other-register}
+use Rattle.code_pieces.proofs.Const.{put, puts-one, const-puts, const-short, eq-true}
+use Rattle.code_pieces.proofs.Frame.{Is, Holds, IsScratch, keeps-then, saved_regs, scratch-t0, scratch-t1, scratch-t2, scratch-argument, argument-number, hold-put, hold-store, store-goes, value-puts, operand-some}
+use Rattle.code_pieces.proofs.Slots.{load-short, store-some, other-register}
 use Rattle.quick_code.proofs.NarrowRuns.{AreSteps, behind, steps-go}
 use Rattle.quick_code.proofs.Meanings.{Keeps}
 

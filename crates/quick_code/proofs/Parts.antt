@@ -19,12 +19,12 @@ use Rattle.ir_meaning.specs.Plays.{Meaning, Invocation}
 use Rattle.rv_play.specs.Machine.{Machine, code_base, code_limit, control_base, control_end}
 use Rattle.rv_play.specs.CodePlay.{Place, Point}
 use Rattle.rv_play.proofs.Lines.{Stands, stands-apart, Goes, goes-then, goes-none}
-use Rattle.quick_code.specs.Code.{load_value, const_code}
+use Rattle.code_pieces.specs.Code.{load_value, const_code}
 use Rattle.quick_code.specs.Narrow.{sign_extended}
 use Rattle.quick_code.specs.Parts.{Piece, Bytes, Times, exponent, scaled_code, scale_code, twelve, added_code, times_code, pieces_code, bytes_code}
-use Rattle.quick_code.proofs.Const.{put, const-puts, const-short}
-use Rattle.quick_code.proofs.Frame.{Holds, scratch-t1, scratch-t2, hold-put}
-use Rattle.quick_code.proofs.Slots.{load-short}
+use Rattle.code_pieces.proofs.Const.{put, const-puts, const-short}
+use Rattle.code_pieces.proofs.Frame.{Holds, scratch-t1, scratch-t2, hold-put}
+use Rattle.code_pieces.proofs.Slots.{load-short}
 use Rattle.quick_code.proofs.NarrowCode.{signs-second, modulo-below, written-other}
 use Rattle.quick_code.proofs.NarrowRuns.{AreSteps, behind, steps-go, sign-run, sign-short}
 use Rattle.quick_code.proofs.Meanings.{Keeps, keeps-none, keeps-first, keeps-second-sign}

@@ -11,7 +11,7 @@ use Rattle.ir_meaning.specs.Memory.{Memory}
 use Rattle.ir_meaning.specs.Meaning.{result_width}
 use Rattle.ir_meaning.specs.Ranges.{FitsWidth, FitsResult, AreArgs}
 use Rattle.rv_play.specs.Good.{RefinesArgs, RefinesResult, RefinesValue, arg_regs}
-use Rattle.quick_code.proofs.Frame.{Is}
+use Rattle.code_pieces.proofs.Frame.{Is}
 
 pub refines-take : (n : ℕ) (memory : Memory) (i b : ℕ) → slice_get (take n memory) i ≡ Some (Some b) → slice_get memory i ≡ Some (Some b)
 refines-take zero memory i b h = absurd (let bad : ⊥ = cc in bad)

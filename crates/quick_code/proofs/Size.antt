@@ -32,23 +32,26 @@ use Rattle.rv_asm.proofs.Laid.{sizes, size-is}
 use Rattle.ir_meaning.specs.Operators.{width}
 use Rattle.ir_meaning.specs.Step.{Program, function_at, insts_at, insts_of, number_at, on_edge, phis, moves_bytes}
 use Rattle.ir_meaning.specs.Meaning.{meaning, of_function, operands_of_phi, phi_operands_of}
-use Rattle.quick_code.specs.Data.{takes_data, save_code, restore_code, alloca_code, moved_code}
+use Rattle.code_pieces.specs.Bytes.{save_code, restore_code}
+use Rattle.quick_code.specs.Data.{takes_data, alloca_code, moved_code}
 use Rattle.quick_code.proofs.Moved.{moved-short}
 use Rattle.quick_code.proofs.Allocas.{alloca-short, save-short, restore-short}
-use Rattle.quick_code.specs.Code.{call_code, leave_code, prologue, store_value}
+use Rattle.code_pieces.specs.Code.{call_code, leave_code, prologue, store_value}
 use Rattle.quick_code.specs.Parts.{parts_code}
 use Rattle.quick_code.specs.Operations.{value_code, values_code, operands, built_in_operands, work_code, operation_code, store_op, keeping_code}
-use Rattle.quick_code.specs.Blocks.{is_headless, first_to, case_label, case_edge, case_edges, are_headless, switch_edges, cases_items, Item, Plain, Bind, Goto, Test, plain, next_code, next_of, nexts_code, phis_code, edge_code, block_label, edge_label, edge_items, last_edge_items, branch_items, return_code, answer_code, called_code, op_items, insts_items, block_items, blocks_items, arguments_code, function_items}
+use Rattle.code_pieces.specs.Items.{Item, Plain, Bind, Goto, Test, plain}
+use Rattle.quick_code.specs.Blocks.{is_headless, first_to, case_label, case_edge, case_edges, are_headless, switch_edges, cases_items, next_code, next_of, nexts_code, phis_code, edge_code, block_label, edge_label, edge_items, last_edge_items, branch_items, return_code, answer_code, called_code, op_items, insts_items, block_items, blocks_items, arguments_code, function_items}
 use Rattle.quick_code.specs.Forms.{IsForm, IsFlow, IsJump}
-use Rattle.quick_code.specs.Assembly.{assembled, put, code_of}
+use Rattle.code_pieces.specs.Assembly.{assembled, put}
+use Rattle.quick_code.specs.Assembly.{code_of}
 use Rattle.quick_code.proofs.Operations.{value-short, values-short}
 use Rattle.quick_code.proofs.Arguments.{arguments-short, answer-short}
 use Rattle.quick_code.proofs.NarrowRuns.{binary-short, compare-short, cast-short}
 use Rattle.quick_code.proofs.BuiltIns.{built_in-short}
 use Rattle.quick_code.proofs.Distances.{parts-short}
-use Rattle.quick_code.proofs.Slots.{store-short}
-use Rattle.quick_code.proofs.Entry.{prologue-short}
-use Rattle.quick_code.proofs.Ends.{leave-short}
+use Rattle.code_pieces.proofs.Slots.{store-short}
+use Rattle.code_pieces.proofs.Entry.{prologue-short}
+use Rattle.code_pieces.proofs.Ends.{leave-short}
 use Rattle.quick_code.proofs.Edges.{next-short, phis-length, units-some}
 use Rattle.quick_code.proofs.Fresh.{EndsByJump, ends-tail, ends-drop, none-behind}
 

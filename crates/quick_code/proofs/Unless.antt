@@ -15,7 +15,7 @@ use Rattle.rv_play.specs.Machine.{Machine, On, code_base, code_limit, control_ba
 use Rattle.rv_play.specs.CodePlay.{Place, Point}
 use Rattle.rv_play.proofs.Lines.{Stands, stands-apart, Goes, goes-then, plain-step, moved}
 use Rattle.quick_code.specs.Narrow.{after_all}
-use Rattle.quick_code.proofs.Frame.{Is, Holds}
+use Rattle.code_pieces.proofs.Frame.{Is, Holds}
 use Rattle.quick_code.proofs.NarrowRuns.{AreSteps, behind, steps-go}
 use Rattle.quick_code.proofs.Meanings.{Keeps}
 use Rattle.quick_code.proofs.Operations.{Worked, hold-behind}

@@ -5,10 +5,12 @@ use Rattle.ir_core.specs.declared.program.Global.{Global}
 use Rattle.ir_core.specs.Units.{frame}
 use Rattle.ir_meaning.specs.Meaning.{meaning}
 use Rattle.quick_code.specs.Blocks.{label_count, function_items}
-use Rattle.quick_code.specs.Assembly.{assembled, bind_all, put, code_of}
+use Rattle.code_pieces.specs.Assembly.{assembled, bind_all, put}
+use Rattle.quick_code.specs.Assembly.{code_of}
 use Rattle.quick_code.specs.Laws.{QuickCodeIsGood}
-use Rattle.quick_code.proofs.Bridge.{AreBound, AreWithin, stand-everywhere}
-use Rattle.quick_code.proofs.Fresh.{are-bound, bind-within, none-within, labels-rise}
+use Rattle.code_pieces.proofs.Bridge.{AreBound, AreWithin, stand-everywhere}
+use Rattle.code_pieces.proofs.Rising.{are-bound, bind-within, none-within}
+use Rattle.quick_code.proofs.Fresh.{labels-rise}
 use Rattle.quick_code.proofs.FlowWhole.{flow-is-good}
 use Rattle.quick_code.proofs.Size.{words-few}
 

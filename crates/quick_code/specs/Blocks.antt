@@ -1,5 +1,5 @@
 -- The quick code of a function of several blocks, as instructions with labels.
-use Rattle.std.specs.Prelude.{Bool, true, false, ◌&&◌, ℕ, zero, suc, sum_by, take, ◌+◌, ◌*◌, ◌==◌, if◌then◌else◌, List, [], ◌∷◌, ◌++◌, length, drop, map, Option, Some, None}
+use Rattle.std.specs.Prelude.{Bool, true, false, ◌&&◌, ℕ, zero, suc, sum_by, take, ◌+◌, ◌*◌, ◌==◌, if◌then◌else◌, List, ◌∷◌, ◌++◌, length, drop, map, Option, Some, None}
 use Rattle.ir_core.specs.declared.types.Ty.{Ty}
 use Rattle.ir_core.specs.declared.code.Operand.{Operand}
 use Rattle.ir_core.specs.declared.code.Operand.TheVariants.{Num, Poison}
@@ -16,20 +16,12 @@ use Rattle.rv_core.specs.declared.instr.BranchOp.TheVariants.{Beq, Bne}
 use Rattle.rv_core.specs.declared.instr.Instr.{Instr}
 use Rattle.ir_meaning.specs.Operators.{width}
 use Rattle.ir_meaning.specs.Step.{insts_at, number_at, on_edge, phis, moves_bytes}
-use Rattle.quick_code.specs.Code.{argument_reg, load_at, store_at, store_value, call_code, leave_code, prologue}
+use Rattle.code_pieces.specs.Code.{argument_reg, load_at, store_at, store_value, call_code, leave_code, prologue}
 use Rattle.quick_code.specs.Narrow.{zero_extended}
 use Rattle.quick_code.specs.Operations.{value_code, values_code, operation_code, keeping_code}
-use Rattle.quick_code.specs.Data.{takes_data, save_code, restore_code, alloca_code, moved_code}
-
--- an instruction, the place of a label, a jump to one, and a jump to one where a comparison of two registers holds
-pub data Item : Type 0 where
-  Plain : (instr : Instr) → Item
-  Bind : (label : ℕ) → Item
-  Goto : (label : ℕ) → Item
-  Test : (op : BranchOp) (a b : Reg) (label : ℕ) → Item
-
-abbrev pub plain : List Instr → List Item
-plain = map Plain
+use Rattle.code_pieces.specs.Bytes.{save_code, restore_code}
+use Rattle.quick_code.specs.Data.{takes_data, alloca_code, moved_code}
+use Rattle.code_pieces.specs.Items.{Item, Bind, Goto, Test, plain}
 
 -- a phi's next value stands 16 bytes above its slot
 abbrev pub load_next : Reg → ℕ → List Instr

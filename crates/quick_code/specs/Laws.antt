@@ -7,7 +7,7 @@ use Rattle.ir_meaning.specs.Typed.{IsTyped}
 use Rattle.rv_play.specs.Good.{Good}
 use Rattle.ir_core.specs.Units.{frame}
 use Rattle.quick_code.specs.Blocks.{function_items}
-use Rattle.quick_code.specs.Labels.{StandEverywhere}
+use Rattle.code_pieces.specs.Labels.{StandEverywhere}
 use Rattle.quick_code.specs.Forms.{IsFlow}
 use Rattle.rv_asm.specs.Layout.{IsAssembly}
 use Rattle.rv_asm.specs.Runs.{RunsAs}

@@ -1,11 +1,8 @@
-pub mod Code
 pub mod Narrow
 pub mod Parts
 pub mod Operations
 pub mod Data
 pub mod Blocks
-pub mod Labels
 pub mod Assembly
 pub mod Forms
 pub mod Laws
-pub mod AssemblyLaws

@@ -22,7 +22,7 @@ use Rattle.rv_core.specs.declared.instr.Instr.{Instr}
 use Rattle.rv_core.specs.declared.instr.Instr.TheVariants.{Branch, Load as LoadBytes, Store as StoreBytes, Imm}
 use Rattle.ir_meaning.specs.Operators.{width}
 use Rattle.ir_meaning.specs.Image.{place_address}
-use Rattle.quick_code.specs.Code.{load_value, store_value, const_code}
+use Rattle.code_pieces.specs.Code.{load_value, store_value, const_code}
 use Rattle.quick_code.specs.Narrow.{binary_code, compare_code, cast_code, built_in_code}
 use Rattle.quick_code.specs.Parts.{parts_code}
 

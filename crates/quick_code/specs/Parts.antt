@@ -15,7 +15,7 @@ use Rattle.rv_core.specs.declared.instr.Instr.{Instr}
 use Rattle.rv_core.specs.declared.instr.Instr.TheVariants.{Imm, Op as RegisterOp}
 use Rattle.ir_meaning.specs.Operators.{width}
 use Rattle.ir_meaning.specs.Memory.{index_64}
-use Rattle.quick_code.specs.Code.{load_value, const_code}
+use Rattle.code_pieces.specs.Code.{load_value, const_code}
 use Rattle.quick_code.specs.Narrow.{sign_extended}
 
 -- what an index adds: so many bytes, or a size for each of a value's number, which is read with its sign from a width

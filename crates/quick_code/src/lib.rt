@@ -1,5 +1,4 @@
 //! The code of the quick tier: what it is, and why it is good.
 #![tactic(auto)]
 
-pub mod assembly_laws;
 pub mod laws;

@@ -1,10 +1,10 @@
 // The words of addresses and of built-ins, beside those that are assembled by hand.
 use fast_isel::compile::quick_flow;
 use fast_isel::taken::takes;
-use fast_isel_emit::places::Places;
 use ir_core::code::{Block, BuiltIn, Inst, Op, Operand};
 use ir_core::program::{Function, Global as GlobalItem, Init, Module};
 use ir_core::types::{MemTy, Ty};
+use ir_data::addresses::Places;
 use ir_verify::checked::Checked;
 use ir_verify::verdict::verify;
 use sqlite_items::{Boxed, Items};

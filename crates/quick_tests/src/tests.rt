@@ -1,10 +1,10 @@
 // The words of small functions, and those of a loop, of narrow values and of a switch that are assembled by hand.
 use fast_isel::compile::quick_flow;
 use fast_isel::taken::takes;
-use fast_isel_emit::places::Places;
 use ir_core::code::{BinOp, Block, BuiltIn, CastOp, Flags, Inst, Op, Operand, Pred};
 use ir_core::program::{Function, Module};
 use ir_core::types::{MemTy, Ty};
+use ir_data::addresses::Places;
 use ir_verify::checked::Checked;
 use ir_verify::verdict::verify;
 use sqlite_items::Items;

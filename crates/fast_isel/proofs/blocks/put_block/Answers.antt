@@ -1,8 +1,9 @@
 use Rattle.std.proofs.Common.{◌-◌, ap, ◌∙◌, arith, length, ◌∷◌, []}
 use Rattle.std.specs.Prelude.{take, drop, slice_get}
 use Rattle.ir_core.specs.Units.{frame, values}
-use Rattle.quick_code.specs.Assembly.{put}
-use Rattle.quick_code.specs.Blocks.{Bind, block_label, insts_items}
+use Rattle.code_pieces.specs.Assembly.{put}
+use Rattle.code_pieces.specs.Items.{Bind}
+use Rattle.quick_code.specs.Blocks.{block_label, insts_items}
 use Rattle.fast_isel.specs.Taken.{are_forms}
 use Rattle.ir_meaning.specs.Step.{insts_at}
 use Rattle.fast_isel.proofs.Counts.{number-most, label_below}

@@ -1,7 +1,7 @@
 use Rattle.std.proofs.Common.{◌≡◌, ◌-◌, length}
 use Rattle.ir_core.specs.Units.{frame}
 use Rattle.quick_code.specs.Blocks.{blocks_items, block_label}
-use Rattle.quick_code.specs.Assembly.{put}
+use Rattle.code_pieces.specs.Assembly.{put}
 use Rattle.fast_isel.specs.Written.{AreFree}
 use Rattle.fast_isel.proofs.blocks.put_blocks.Given as goal
 

@@ -10,7 +10,7 @@ use Rattle.std.specs.Prelude.{if◌then◌else◌}
 use Rattle.ir_meaning.specs.Step.{moves_bytes}
 use Rattle.quick_code.specs.Data.{takes_data, moved_code}
 use Rattle.quick_code.specs.Forms.{IsJump}
-use Rattle.quick_code.specs.Assembly.{put}
+use Rattle.code_pieces.specs.Assembly.{put}
 use Rattle.fast_isel_emit.specs.Written.{put_code}
 use Rattle.fast_isel_emit.proofs.Put.{code_is}
 use Rattle.fast_isel.proofs.Counts.{label_below}

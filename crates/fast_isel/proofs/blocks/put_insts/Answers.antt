@@ -3,7 +3,7 @@ use Rattle.ir_core.specs.Units.{frame}
 use Rattle.ir_meaning.specs.Step.{insts_at, number_at}
 use Rattle.quick_code.specs.Blocks.{op_items}
 use Rattle.fast_isel.specs.Taken.{is_form}
-use Rattle.quick_code.specs.Assembly.{put}
+use Rattle.code_pieces.specs.Assembly.{put}
 use Rattle.fast_isel.proofs.Counts.{number-most, number-step, edges_at}
 use Rattle.fast_isel.proofs.Forms.{few_values, block_forms, forms-at}
 use Rattle.fast_isel.proofs.Joins.{inst_at, insts_end, free_more, free_here, insts_more, insts_done}

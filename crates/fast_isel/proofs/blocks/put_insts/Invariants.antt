@@ -2,7 +2,7 @@ use Rattle.std.proofs.Common.{◌≡◌, ◌+◌, ◌⊎◌, drop, []}
 use Rattle.ir_core.specs.Units.{frame}
 use Rattle.ir_meaning.specs.Step.{number_at}
 use Rattle.quick_code.specs.Blocks.{insts_items, edge_label}
-use Rattle.quick_code.specs.Assembly.{put}
+use Rattle.code_pieces.specs.Assembly.{put}
 use Rattle.fast_isel.specs.Written.{AreFree}
 use Rattle.fast_isel.proofs.blocks.put_insts.Given as goal
 

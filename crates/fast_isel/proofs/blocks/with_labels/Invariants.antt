@@ -1,5 +1,5 @@
 use Rattle.std.proofs.Common.{◌≡◌}
-use Rattle.quick_code.specs.Assembly.{labelled}
+use Rattle.code_pieces.specs.Assembly.{labelled}
 use Rattle.fast_isel.proofs.blocks.with_labels.Given as goal
 
 abbrev pub invariant-loop-label : goal.invariant-loop-label

@@ -1,8 +1,8 @@
 use Rattle.std.proofs.Common.{ap, sym, ◌∙◌, ◌∷◌, [], subst, ◌≡◌, ℕ, Some, None}
 use Rattle.std.specs.Prelude.{slice_get}
 use Rattle.rv_core.specs.declared.reg.Reg.TheVariants.{X0, T0}
-use Rattle.quick_code.specs.Assembly.{put}
-use Rattle.quick_code.specs.Blocks.{Bind, Test}
+use Rattle.code_pieces.specs.Assembly.{put}
+use Rattle.code_pieces.specs.Items.{Bind, Test}
 use Rattle.fast_isel.proofs.Joins.{branch_put, branch_free}
 use Rattle.fast_isel.proofs.jumps.put_branch.Goals as goal
 

@@ -1,6 +1,6 @@
 use Rattle.std.proofs.Common.{ap, ◌∙◌, ◌∷◌, []}
-use Rattle.quick_code.specs.Assembly.{put}
-use Rattle.quick_code.specs.Blocks.{Goto}
+use Rattle.code_pieces.specs.Assembly.{put}
+use Rattle.code_pieces.specs.Items.{Goto}
 use Rattle.fast_isel.proofs.Joins.{last_next, last_goto}
 use Rattle.fast_isel.proofs.jumps.put_last_edge.Goals as goal
 

@@ -1,7 +1,7 @@
 use Rattle.std.proofs.Common.{ap, sym, ◌∙◌, arith, length, ◌++◌}
 use Rattle.rv_core.specs.declared.reg.Reg.TheVariants.{T0}
 use Rattle.ir_meaning.specs.Step.{number_at}
-use Rattle.quick_code.specs.Code.{store_value}
+use Rattle.code_pieces.specs.Code.{store_value}
 use Rattle.quick_code.specs.Blocks.{load_next}
 use Rattle.fast_isel_emit.specs.Written.{put_code}
 use Rattle.fast_isel.proofs.Counts.{number-most}

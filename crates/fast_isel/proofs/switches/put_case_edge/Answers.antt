@@ -1,6 +1,6 @@
 use Rattle.std.proofs.Common.{sym, ap, ◌∙◌, ◌+◌, ◌∷◌, []}
-use Rattle.quick_code.specs.Assembly.{put}
-use Rattle.quick_code.specs.Blocks.{Bind}
+use Rattle.code_pieces.specs.Assembly.{put}
+use Rattle.code_pieces.specs.Items.{Bind}
 use Rattle.fast_isel.proofs.Joins.{edge_head, edge_later, edge_first}
 use Rattle.fast_isel.proofs.switches.put_case_edge.Goals as goal
 

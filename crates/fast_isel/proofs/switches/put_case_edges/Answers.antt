@@ -1,5 +1,5 @@
 use Rattle.std.proofs.Common.{ap, ◌∙◌, arith, get_or, length}
-use Rattle.quick_code.specs.Assembly.{put}
+use Rattle.code_pieces.specs.Assembly.{put}
 use Rattle.quick_code.specs.Blocks.{case_edge}
 use Rattle.fast_isel.proofs.Joins.{cases_sound, edges_more, edges_done, edges_free}
 use Rattle.fast_isel.proofs.switches.put_case_edges.Goals as goal

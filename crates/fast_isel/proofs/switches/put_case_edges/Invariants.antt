@@ -1,5 +1,5 @@
 use Rattle.std.proofs.Common.{◌≡◌, ◌+◌, drop, true, length}
-use Rattle.quick_code.specs.Assembly.{put}
+use Rattle.code_pieces.specs.Assembly.{put}
 use Rattle.quick_code.specs.Blocks.{edge_label, case_edges}
 use Rattle.fast_isel.specs.Taken.{are_cases}
 use Rattle.fast_isel.specs.Written.{AreFree}

@@ -1,5 +1,5 @@
 use Rattle.std.proofs.Common.{◌≡◌, drop, true, length}
-use Rattle.quick_code.specs.Assembly.{put}
+use Rattle.code_pieces.specs.Assembly.{put}
 use Rattle.quick_code.specs.Blocks.{cases_items}
 use Rattle.fast_isel.specs.Taken.{are_cases}
 use Rattle.fast_isel.proofs.switches.put_cases.Given as goal

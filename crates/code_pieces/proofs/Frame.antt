@@ -14,9 +14,9 @@ use Rattle.rv_play.specs.Machine.{Machine, code_base, code_limit, control_base, 
 use Rattle.rv_play.specs.CodePlay.{Place, Point}
 use Rattle.rv_play.specs.Good.{RefinesMemory, KeepsControl, KeepsRegs}
 use Rattle.rv_play.proofs.Lines.{Stands, Goes}
-use Rattle.quick_code.specs.Code.{argument_reg, load_value, store_value}
-use Rattle.quick_code.proofs.Const.{put}
-use Rattle.quick_code.proofs.Slots.{Alters, Saves, loads-at, saves-at, other-register}
+use Rattle.code_pieces.specs.Code.{argument_reg, load_value, store_value}
+use Rattle.code_pieces.proofs.Const.{put}
+use Rattle.code_pieces.proofs.Slots.{Alters, Saves, loads-at, saves-at, other-register}
 
 -- the saved registers but for s11, which is the data top
 abbrev pub saved_regs : List Reg

@@ -15,11 +15,11 @@ use Rattle.rv_asm.specs.Runs.{Arrives, ItemStands, ItemsStand, spelled, RunsAs, 
 use Rattle.rv_asm.specs.Runs as asm
 use Rattle.rv_asm.specs.declared.item.Item.{Item as Assembled}
 use Rattle.rv_asm.specs.declared.item.Item.TheVariants as asm_item
-use Rattle.quick_code.specs.AssemblyLaws.{reached}
-use Rattle.quick_code.proofs.Hops.{arrives-go}
-use Rattle.quick_code.specs.Blocks.{Item, Plain, Bind, Goto, Test}
-use Rattle.quick_code.specs.Labels.{Hops, StandsAs, StandEverywhere}
-use Rattle.quick_code.specs.Assembly.{assembled}
+use Rattle.code_pieces.specs.AssemblyLaws.{reached}
+use Rattle.code_pieces.proofs.Hops.{arrives-go}
+use Rattle.code_pieces.specs.Items.{Item, Plain, Bind, Goto, Test}
+use Rattle.code_pieces.specs.Labels.{Hops, StandsAs, StandEverywhere}
+use Rattle.code_pieces.specs.Assembly.{assembled}
 
 -- each label stands before its item, of which the first has that number
 abbrev pub AreBound : List (Option ℕ) → ℕ → List Item → Type 0

@@ -17,7 +17,7 @@ use Rattle.rv_play.specs.Machine.{Act, On, act, code_base, code_limit}
 use Rattle.rv_play.specs.CodePlay.{Place, Point, is_jalr}
 use Rattle.rv_play.specs.Ending.{upper, lower}
 use Rattle.rv_play.proofs.Lines.{Stands, stands-apart, Goes, goes-then, plain-step}
-use Rattle.quick_code.specs.Code.{is_twelve, is_word, high_part, add_low, word_code, const_code}
+use Rattle.code_pieces.specs.Code.{is_twelve, is_word, high_part, add_low, word_code, const_code}
 
 pub eq-true : (a b : ℕ) → (a == b) ≡ true → a ≡ b
 eq-true a b h = grind arith
@@ -143,6 +143,13 @@ pub word-false : (n : ℕ) → is_word n ≡ false → (2 ^ 31 ≤ n) × (n < 2 
 word-false n h = let r = or-false (nat_lt n (2 ^ 31)) (nat_le (2 ^ 64 - 2 ^ 31) n) h in (ltb-false _ _ r.0, leb-false _ _ r.1)
 
 -- ---- the code
+
+pub read-is : (s : Registers) (rd : Reg) → number_of rd ≢ 0 → read s rd ≡ s.x (number_of rd)
+read-is s rd nz = ap (λ (b : Bool). cond b 0 (s.x (number_of rd))) (not-first (number_of rd == 0) refl)
+  where
+    not-first : (b : Bool) → (number_of rd == 0) ≡ b → b ≡ false
+    not-first true e = absurd (nz (eq-true (number_of rd) 0 e))
+    not-first false e = refl
 
 module _ (m : Meaning) (functions : m.functions ≤ 1024) (place : Place) (low : code_base + 4 ≤ place.base) (high : place.base + 4 * length place.words ≤ code_limit) where
   -- code that leaves a number in a register, and nothing else

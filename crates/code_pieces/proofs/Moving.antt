@@ -18,9 +18,9 @@ use Rattle.ir_meaning.specs.Plays.{Meaning}
 use Rattle.rv_play.specs.Machine.{Machine, Act, On, Fails, act, loaded, in_data, in_control, code_base, code_limit, data_base}
 use Rattle.rv_play.specs.CodePlay.{Place, Point}
 use Rattle.rv_play.proofs.Lines.{Stands, Goes, goes-then, plain-step, moved, next-regs}
-use Rattle.quick_code.specs.Data.{copy_loop, fill_loop, move_code, fill_code}
-use Rattle.quick_code.proofs.Const.{put, puts-one, eq-true}
-use Rattle.quick_code.proofs.Frame.{scratch-t0, scratch-t1, scratch-t2}
+use Rattle.code_pieces.specs.Bytes.{copy_loop, fill_loop, move_code, fill_code}
+use Rattle.code_pieces.proofs.Const.{put, puts-one, eq-true}
+use Rattle.code_pieces.proofs.Frame.{scratch-t0, scratch-t1, scratch-t2}
 
 module _ (m : Meaning) (functions : m.functions ≤ 1024) (room : m.room ≤ 67108864) (place : Place) (lowb : code_base + 4 ≤ place.base) (highb : place.base + 4 * length place.words ≤ code_limit) where
   abbrev Runs : ℕ → Point → Point → Type 0

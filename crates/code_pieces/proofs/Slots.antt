@@ -16,8 +16,8 @@ use Rattle.rv_play.specs.Machine.{Machine, Act, On, Fails, act, loaded, in_data,
 use Rattle.rv_play.specs.CodePlay.{Place, Point}
 use Rattle.rv_play.specs.Ending.{upper, lower}
 use Rattle.rv_play.proofs.Lines.{Stands, stands-apart, Goes, goes-then, plain-step, moved, next-regs, InControl}
-use Rattle.quick_code.specs.Code.{load_at, store_at}
-use Rattle.quick_code.proofs.Const.{Puts, put, puts-one, puts-then, puts-if, read-put, write-is, low-cases, sign-cases}
+use Rattle.code_pieces.specs.Code.{load_at, store_at}
+use Rattle.code_pieces.proofs.Const.{Puts, put, puts-one, puts-then, puts-if, read-put, write-is, low-cases, sign-cases}
 
 other-number : (n j : ℕ) (b : Bool) (v x : ℕ) → (j == n) ≡ b → j ≢ n → cond b v x ≡ x
 other-number n j true v x e h = absurd (h (grind arith))

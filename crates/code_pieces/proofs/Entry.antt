@@ -19,10 +19,10 @@ use Rattle.rv_play.specs.Machine.{Machine, On, Counts, Fails, act, code_base, co
 use Rattle.rv_play.specs.CodePlay.{Place, Point, Overflows, CodeReply, code_run, entered}
 use Rattle.rv_play.specs.Good.{IsRegs, RefinesMemory}
 use Rattle.rv_play.proofs.Lines.{Stands, stands-apart, Goes, goes-then, one-step, plain-step, count-step, moved, next-regs}
-use Rattle.quick_code.specs.Code.{negative, const_code, lowered_code, lower_sp, store_at, prologue}
-use Rattle.quick_code.proofs.Const.{Puts, put, puts-one, puts-then, puts-if, const-puts, const-short}
-use Rattle.quick_code.proofs.Slots.{Alters, Saves, saves-at, store-short, other-register}
-use Rattle.quick_code.proofs.Frame.{Holds, saved_regs, keeps-then, keeps-others}
+use Rattle.code_pieces.specs.Code.{negative, const_code, lowered_code, lower_sp, store_at, prologue}
+use Rattle.code_pieces.proofs.Const.{Puts, put, puts-one, puts-then, puts-if, const-puts, const-short}
+use Rattle.code_pieces.proofs.Slots.{Alters, Saves, saves-at, store-short, other-register}
+use Rattle.code_pieces.proofs.Frame.{Holds, saved_regs, keeps-then, keeps-others}
 
 -- a negative number modulo 2 ^ 64
 pub negative-is : (k : ℕ) → 0 < k → k < 2 ^ 32 → modulo (negative k) ≡ 2 ^ 64 - k

@@ -6,7 +6,7 @@ use Rattle.ir_meaning.specs.Plays.{Meaning}
 use Rattle.rv_play.specs.Machine.{code_base, code_limit}
 use Rattle.rv_play.specs.CodePlay.{Place, Point, CodeReply, code_run, instr_at}
 use Rattle.rv_play.specs.Good.{IsBase}
-use Rattle.quick_code.specs.Blocks.{Item, Plain, Bind, Goto, Test}
+use Rattle.code_pieces.specs.Items.{Item, Plain, Bind, Goto, Test}
 
 -- at least so many and at most three instructions lead from a point to an address, and change no register but t6
 pub record Hops (m : Meaning) (place : Place) (least : ℕ) (p : Point) (to : ℕ) : Type 0 where

@@ -13,7 +13,7 @@ use Rattle.rv_play.specs.Machine.{Machine, On, act, serve, code_base, code_limit
 use Rattle.rv_play.specs.CodePlay.{Place, Point, CodeEnd, Running, after_act, called, stub_at, is_return, is_jalr, arrive, word_at, option_bind, code_run}
 use Rattle.rv_play.proofs.Lines.{Goes, goes-then, goes-none, one-step}
 use Rattle.rv_asm.specs.Runs.{instr_at, spelled, Runs, Arrives}
-use Rattle.quick_code.specs.AssemblyLaws.{reached, JumpsArrive}
+use Rattle.code_pieces.specs.AssemblyLaws.{reached, JumpsArrive}
 
 pick-no : {A : Type 0} (b : Bool) (x y : A) → b ≡ false → cond b x y ≡ y
 pick-no false x y h = refl

@@ -17,10 +17,10 @@ use Rattle.rv_play.specs.Machine.{Machine, On, act, code_base, code_limit, contr
 use Rattle.rv_play.specs.CodePlay.{Place, Point, CodeEnd, Returns, CodeReply, code_run, after_act}
 use Rattle.rv_play.specs.Good.{RefinesMemory, KeepsControl, KeepsRegs}
 use Rattle.rv_play.proofs.Lines.{Stands, stands-apart, Goes, goes-then, one-step, moved}
-use Rattle.quick_code.specs.Code.{const_code, load_at, raised_code, leave_code}
-use Rattle.quick_code.proofs.Const.{put, puts-one, const-puts, const-short}
-use Rattle.quick_code.proofs.Slots.{loads-at, load-short, other-register}
-use Rattle.quick_code.proofs.Frame.{Is, Holds, saved_regs, keeps-then}
+use Rattle.code_pieces.specs.Code.{const_code, load_at, raised_code, leave_code}
+use Rattle.code_pieces.proofs.Const.{put, puts-one, const-puts, const-short}
+use Rattle.code_pieces.proofs.Slots.{loads-at, load-short, other-register}
+use Rattle.code_pieces.proofs.Frame.{Is, Holds, saved_regs, keeps-then}
 
 -- at a return
 pub record Returned (a : Invocation) (s : Machine) (sp : ℕ) (here : Memory) (value : Value) (q : Point) : Type 0 where

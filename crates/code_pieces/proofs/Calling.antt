@@ -15,9 +15,9 @@ use Rattle.rv_play.specs.Ending.{upper, lower}
 use Rattle.rv_play.specs.Good.{RefinesMemory}
 use Rattle.rv_play.proofs.Lines.{Stands, one-step, moved}
 use Rattle.rv_play.proofs.Stub.{cell_address}
-use Rattle.quick_code.specs.Code.{call_code}
-use Rattle.quick_code.proofs.Const.{put, puts-one, eq-true}
-use Rattle.quick_code.proofs.Frame.{Holds, scratch-t1}
+use Rattle.code_pieces.specs.Code.{call_code}
+use Rattle.code_pieces.proofs.Const.{put, puts-one, eq-true}
+use Rattle.code_pieces.proofs.Frame.{Holds, scratch-t1}
 
 -- the point at the entry of a stub, and the place to which its callee returns
 abbrev pub call_point : ℕ → Point → Point

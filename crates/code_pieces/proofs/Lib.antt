@@ -1,0 +1,13 @@
+pub mod Const
+pub mod Slots
+pub mod Frame
+pub mod Calling
+pub mod Ends
+pub mod Entry
+pub mod Memories
+pub mod Moving
+pub mod Moved
+pub mod Labelled
+pub mod Bridge
+pub mod Rising
+pub mod Hops
