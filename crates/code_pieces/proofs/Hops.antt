@@ -5,12 +5,11 @@ use Rattle.std.proofs.lemmas.Bool.{ne_eqb, leb-true}
 use Rattle.rv_core.specs.declared.reg.Reg.TheVariants.{Sp}
 use Rattle.rv_core.specs.declared.instr.Instr.{Instr}
 use Rattle.rv_core.specs.declared.step.Stepped.{Stepped}
-use Rattle.rv_core.specs.declared.step.Stepped.TheVariants as stepped
-use Rattle.rv_core.specs.Step.{Registers, read, after, asks}
+use Rattle.rv_core.specs.Step.{Registers, read, after}
 use Rattle.rv_encode.specs.Reading.{instr_of}
 use Rattle.ir_meaning.specs.Plays.{Meaning}
-use Rattle.rv_play.specs.Machine.{Machine, On, act, serve, code_base, code_limit, stub_base, stub_of}
-use Rattle.rv_play.specs.CodePlay.{Place, Point, CodeEnd, Running, after_act, called, stub_at, is_return, is_jalr, arrive, word_at, option_bind, code_run}
+use Rattle.rv_play.specs.Machine.{On, act, serve, code_base, code_limit, stub_base, stub_of}
+use Rattle.rv_play.specs.CodePlay.{Place, Point, Running, after_act, called, stub_at, is_return, is_jalr, arrive, word_at, option_bind, code_run}
 use Rattle.rv_play.proofs.Lines.{Goes, goes-then, goes-none, one-step}
 use Rattle.rv_asm.specs.Runs.{instr_at, spelled, Runs, Arrives}
 use Rattle.code_pieces.specs.AssemblyLaws.{reached, JumpsArrive}

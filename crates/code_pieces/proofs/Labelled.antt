@@ -1,5 +1,5 @@
 -- Items that stand somewhere, in parts.
-use Rattle.std.proofs.Common.{◌≡◌, subst, ℕ, suc, ◌+◌, ◌*◌, List, ◌∷◌, ◌++◌, length, arith}
+use Rattle.std.proofs.Common.{[], ◌≡◌, subst, ℕ, suc, ◌+◌, ◌*◌, List, ◌∷◌, ◌++◌, length, arith}
 use Rattle.rv_core.specs.declared.instr.Instr.{Instr}
 use Rattle.ir_meaning.specs.Plays.{Meaning}
 use Rattle.rv_play.specs.CodePlay.{Place}

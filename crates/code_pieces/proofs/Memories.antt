@@ -1,5 +1,5 @@
 -- Bytes of a memory, in parts.
-use Rattle.std.proofs.Common.{◌≡◌, refl, ap, ◌∙◌, ℕ, zero, suc, ◌+◌, ◌-◌, ◌<◌, ◌∷◌, ◌++◌, length, replicate, Some, None, arith}
+use Rattle.std.proofs.Common.{[], ◌≡◌, refl, ap, ◌∙◌, ℕ, zero, suc, ◌+◌, ◌<◌, ◌∷◌, ◌++◌, length, replicate, Some, None, arith}
 use Rattle.std.specs.Prelude.{slice_get, take, drop}
 use Rattle.ir_meaning.specs.Value.{Byte}
 use Rattle.ir_meaning.specs.Memory.{Memory}

@@ -1,5 +1,5 @@
 -- Code with labels as the assembler holds it.
-use Rattle.std.specs.Prelude.{ℕ, ◌+◌, List, ◌∷◌, ◌++◌, length, replicate, slice_set, Option, Some, None}
+use Rattle.std.specs.Prelude.{[], ℕ, ◌+◌, List, ◌∷◌, ◌++◌, length, replicate, slice_set, Option, Some, None}
 use Rattle.rv_asm.specs.declared.item.Item.{Item as Assembled}
 use Rattle.rv_asm.specs.declared.item.Item.TheVariants as asm
 use Rattle.rv_asm.specs.Code.{Code}

@@ -1,5 +1,5 @@
 -- The data top in s11, saved and restored, and loops that move bytes of data memory.
-use Rattle.std.specs.Prelude.{negsuc, ℕ, ◌-◌, ◌^◌, Bool, if◌then◌else◌, nat_lt, pos, List, ◌∷◌}
+use Rattle.std.specs.Prelude.{[], negsuc, ℕ, ◌-◌, ◌^◌, Bool, if◌then◌else◌, nat_lt, pos, List, ◌∷◌}
 use Rattle.rv_core.specs.declared.reg.Reg.TheVariants.{X0, T0, T1, T2, T3, T4, S11}
 use Rattle.rv_core.specs.declared.instr.BranchOp.TheVariants.{Beq, Bne, Bgeu}
 use Rattle.rv_core.specs.declared.instr.LoadOp.TheVariants.{Lbu}

@@ -1,6 +1,5 @@
 -- Code as instructions with labels.
 use Rattle.std.specs.Prelude.{ℕ, List, map}
-use Rattle.ir_core.specs.Units.{instructions}
 use Rattle.rv_core.specs.declared.reg.Reg.{Reg}
 use Rattle.rv_core.specs.declared.instr.BranchOp.{BranchOp}
 use Rattle.rv_core.specs.declared.instr.Instr.{Instr}

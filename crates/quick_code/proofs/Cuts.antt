@@ -1,5 +1,5 @@
 -- The code that cuts a register to a width.
-use Rattle.std.proofs.Common.{◌≡◌, ◌≢◌, refl, sym, ap, subst, ◌∙◌, ℕ, ◌+◌, ◌-◌, ◌*◌, ◌%◌, ◌^◌, ◌<◌, ◌≤◌, ◌∷◌, length, Bool, true, false, cond, arith, mod-eq_of_lt}
+use Rattle.std.proofs.Common.{[], ◌≡◌, ◌≢◌, refl, sym, ap, subst, ◌∙◌, ℕ, ◌+◌, ◌-◌, ◌*◌, ◌%◌, ◌^◌, ◌<◌, ◌≤◌, ◌∷◌, length, Bool, true, false, cond, arith, mod-eq_of_lt}
 use Rattle.std.specs.Prelude.{◌==◌, nat_le, pos}
 use Rattle.rv_core.specs.Reg.{number_of}
 use Rattle.rv_core.specs.declared.reg.Reg.{Reg}

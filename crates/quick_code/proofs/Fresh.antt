@@ -1,5 +1,5 @@
 -- The labels of a function's code rise, so each stands at one place.
-use Rattle.std.proofs.Common.{◌≡◌, refl, sym, ap, subst, ℕ, zero, suc, ◌+◌, ◌≤◌, ◌⊎◌, inl, inr, List, ◌∷◌, ◌++◌, length, Some, Bool, true, false, cond, arith}
+use Rattle.std.proofs.Common.{[], ◌≡◌, refl, sym, ap, subst, ℕ, zero, suc, ◌+◌, ◌≤◌, ◌⊎◌, inl, inr, List, ◌∷◌, ◌++◌, length, Some, Bool, true, false, cond, arith}
 use Rattle.std.specs.Prelude.{slice_get, take, drop, ◌==◌}
 use Rattle.std.proofs.lemmas.List.Sums.{sum_by-append, sum_by-cons}
 use Rattle.ir_core.specs.declared.types.Ty.{Ty}

@@ -1,6 +1,5 @@
 -- How much code the built-ins that move bytes take.
-use Rattle.std.proofs.Common.{◌-◌, ◌≤◌, List, ◌∷◌, length, arith}
-use Rattle.std.specs.Prelude.{take}
+use Rattle.std.proofs.Common.{[], ◌≤◌, List, ◌∷◌, length, arith}
 use Rattle.std.proofs.lemmas.List.{length-append}
 use Rattle.ir_core.specs.declared.types.Ty.{Ty}
 use Rattle.ir_core.specs.declared.code.Operand.{Operand}

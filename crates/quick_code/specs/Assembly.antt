@@ -3,7 +3,6 @@ use Rattle.std.specs.Prelude.{ℕ, List}
 use Rattle.ir_core.specs.declared.program.Function.{Function}
 use Rattle.ir_core.specs.declared.program.Global.{Global}
 use Rattle.ir_core.specs.Units.{frame}
-use Rattle.rv_asm.specs.declared.item.Item.TheVariants as asm
 use Rattle.rv_asm.specs.Code.{Code}
 use Rattle.quick_code.specs.Blocks.{label_count, function_items}
 use Rattle.code_pieces.specs.Assembly.{put, labelled}

@@ -1,5 +1,5 @@
 -- The quick code of allocas and of the built-ins that move bytes. s11 is the data top; a function with an alloca saves it, and restores it at each return.
-use Rattle.std.specs.Prelude.{ℕ, ◌+◌, ◌-◌, ◌*◌, Bool, true, false, ◌||◌, pos, List, ◌∷◌, ◌++◌}
+use Rattle.std.specs.Prelude.{[], ℕ, ◌+◌, ◌*◌, Bool, true, false, ◌||◌, pos, List, ◌∷◌, ◌++◌}
 use Rattle.ir_core.specs.declared.types.Ty.{Ty}
 use Rattle.ir_core.specs.declared.types.MemTy.{MemTy}
 use Rattle.ir_core.specs.declared.code.Operand.{Operand}
