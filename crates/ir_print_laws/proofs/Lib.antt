@@ -61,3 +61,4 @@ mod Fits
 mod Printed
 mod Alone
 mod Passing
+pub mod OneModule

@@ -1,7 +1,12 @@
 // Laws of what is read: each function's contract is a law.
-ghost use Rattle.ir_print_laws.specs.ReadLaws.{ReadsFit, ReadModulesPrintBack};
+ghost use Rattle.ir_print_laws.specs.ReadLaws.{TextsReadAsOne, ReadsFit, ReadModulesPrintBack};
 
 use crate::print_laws::prints_back;
+
+/// A text reads as one module.
+pub fn texts_read_as_one()
+    ensures { TextsReadAsOne }
+{}
 
 /// A module that a text of bytes reads as fits.
 pub fn reads_fit()
