@@ -28,11 +28,11 @@ use Rattle.code_pieces.specs.Bytes.{save_code}
 use Rattle.quick_code.specs.Data.{takes_data}
 use Rattle.code_pieces.specs.Assembly.{put, labelled}
 use Rattle.quick_code.specs.Assembly.{code_of}
-use Rattle.fast_isel_emit.specs.Written.{put_code}
+use Rattle.code_emit.specs.Written.{put_code}
 use Rattle.fast_isel.specs.Written.{AreFree}
 use Rattle.code_pieces.proofs.Rising.{Rise, rise-plain}
 use Rattle.quick_code.proofs.Fresh.{rise-edge, rise-case, rise-cases, rise-op, rise-block, EndsByJump, ends-drop, none-behind}
-use Rattle.fast_isel_emit.proofs.Put.{put-none, then-put, code_none, code_is, code_put, more_code, code_code}
+use Rattle.code_emit.proofs.Put.{put-none, then-put, code_none, code_is, code_put, more_code, code_code}
 use Rattle.fast_isel.proofs.Counts.{one_if, number-step, free-behind, free-label, free-first}
 
 -- ---- edges

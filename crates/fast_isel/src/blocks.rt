@@ -4,16 +4,16 @@ ghost use Rattle.ir_core.specs.Units.{values as value_count, frame};
 ghost use Rattle.ir_meaning.specs.Step.{insts_at, number_at};
 ghost use Rattle.quick_code.specs.Blocks.{both_items, op_items, insts_items, block_items, blocks_items, edges_of, edges_in, edge_label, block_label, label_count};
 ghost use Rattle.quick_code.specs.Data.{takes_data as takes_data_of};
-ghost use Rattle.code_pieces.specs.Assembly.{put, labelled};
+ghost use Rattle.code_pieces.specs.Assembly.{put};
 ghost use Rattle.quick_code.specs.Assembly.{code_of as code_of_function};
 ghost use Rattle.ir_flow.specs.Limits.{op_limit};
-ghost use Rattle.fast_isel_emit.specs.Written.{put_code};
+ghost use Rattle.code_emit.specs.Written.{put_code};
 ghost use Rattle.fast_isel.specs.Written.{given_by, AreLimited, AreStarts, AreFree};
 ghost use Rattle.fast_isel_emit.specs.Operands.{is_operand};
 ghost use Rattle.fast_isel.specs.Taken.{is_form, is_taken};
 ghost use Rattle.quick_code.specs.Forms.{IsFlow, IsJump};
 
-use crate::jumps::{put_branch, put_label, put_last_edge, put_phis};
+use crate::jumps::{put_branch, put_last_edge, put_phis};
 use crate::starts::{Start, first_in, insts_in, label_in, starts_of};
 use crate::switches::put_switch;
 use fast_isel_emit::allocas::{put_alloca, put_save, takes_data};
@@ -22,7 +22,9 @@ use fast_isel_emit::operations::{
     put_binary, put_cast, put_choice, put_compare, put_load, put_same, put_store,
 };
 use fast_isel_emit::parts::put_part;
-use fast_isel_emit::pieces::{put_call, put_parameters, put_prologue, put_return};
+use code_emit::frame::put_prologue;
+use code_emit::labels::{put_label, with_labels};
+use fast_isel_emit::pieces::{put_call, put_parameters, put_return};
 use ir_core::code::{Inst, Op, Operand};
 use ir_core::program::Function;
 use ir_core::types::Ty;
@@ -33,7 +35,7 @@ use rv_core::instr::BranchOp;
 use std::alloc::Global;
 
 // An instruction of a block, which gives the value of that number where it has a result.
-#[tactic(auto, using(crate::proofs::Forms::few_values, fast_isel_emit::proofs::Put::put_none))]
+#[tactic(auto, using(crate::proofs::Forms::few_values, code_emit::proofs::Put::put_none))]
 fn put_inst(
     asm: &mut Asm,
     alloc: Global,
@@ -347,17 +349,6 @@ fn put_blocks(
         )?;
     }
     Ok(())
-}
-
-// Code without an instruction, with so many labels.
-fn with_labels(alloc: Global, labels: u32) -> Result<Asm, NoMemory>
-    ensures { IfOk result (λ asm. asm ≡ labelled labels) }
-{
-    let mut asm = Asm::new(alloc)?;
-    for _label in 0..labels {
-        asm.label(alloc)?;
-    }
-    Ok(asm)
 }
 
 /// The quick code of a function.

@@ -1,24 +1,22 @@
 // The edges between blocks: next values of phis, jumps and labels.
-ghost use Rattle.std.specs.Prelude.{◌≡◌, ◌+◌, ◌*◌, ◌<◌, ◌≤◌, ◌^◌, [], ◌∷◌, length, Some, None, slice_get, OnOk, IfOk, true};
-ghost use Rattle.rv_core.specs.declared.reg.Reg.TheVariants.{T0};
+ghost use Rattle.std.specs.Prelude.{◌≡◌, ◌+◌, ◌*◌, ◌<◌, ◌≤◌, ◌^◌, length, Some, None, slice_get, OnOk, IfOk, true};
 ghost use Rattle.ir_core.specs.Units.{values as value_count};
 ghost use Rattle.ir_meaning.specs.Step.{insts_at, number_at, on_edge, phis};
-ghost use Rattle.code_pieces.specs.Items.{Goto, Bind, Test};
 ghost use Rattle.quick_code.specs.Blocks.{edge_code, edge_items, last_edge_items, branch_items, phis_code, block_label, edge_label};
 ghost use Rattle.code_pieces.specs.Assembly.{put};
-ghost use Rattle.fast_isel_emit.specs.Written.{put_code};
+ghost use Rattle.code_emit.specs.Written.{put_code};
 ghost use Rattle.fast_isel.specs.Written.{AreStarts};
 ghost use Rattle.fast_isel_emit.specs.Operands.{is_operand};
 ghost use Rattle.fast_isel.specs.Taken.{are_edge_operands, are_forms, is_taken};
 
 use crate::starts::{Start, edge_in, first_in, insts_in, label_in};
+use code_emit::labels::{put_goto, put_label, put_test};
 use fast_isel_emit::pieces::{put_next, put_phi, put_value};
 use ir_core::code::{Inst, Op, Operand};
 use ir_core::program::Function;
 use ir_data::addresses::Places;
 use rj_num::NoMemory;
 use rv_asm::asm::Asm;
-use rv_asm::item::Label;
 use rv_core::instr::BranchOp;
 use rv_core::reg::Reg;
 use std::alloc::Global;
@@ -100,35 +98,6 @@ pub fn put_phis(
         }
     }
     Ok(heads)
-}
-
-#[tactic(auto, unfolding(code_pieces::specs::Assembly::put))]
-fn put_goto(asm: &mut Asm, alloc: Global, label: u32) -> Result<(), NoMemory>
-    ensures { OnOk result (asm.new ≡ put asm.old (Goto label ∷ [])) }
-{
-    asm.jump(alloc, Label { number: label })
-}
-
-/// Branches to a label where a comparison of t0 and another register holds.
-#[tactic(auto, unfolding(code_pieces::specs::Assembly::put))]
-pub fn put_test(
-    asm: &mut Asm,
-    alloc: Global,
-    op: BranchOp,
-    other: Reg,
-    label: u32,
-) -> Result<(), NoMemory>
-    ensures { OnOk result (asm.new ≡ put asm.old (Test op T0 other label ∷ [])) }
-{
-    asm.branch(alloc, op, Reg::T0, other, Label { number: label })
-}
-
-/// Puts a label, which stands nowhere yet.
-pub fn put_label(asm: &mut Asm, label: u32)
-    requires { slice_get asm.old.bound label ≡ Some None }
-    ensures { asm.new ≡ put asm.old (Bind label ∷ []) }
-{
-    asm.bind(Label { number: label });
 }
 
 // The next values of the phis of a block, for the edge from another.
@@ -240,7 +209,7 @@ pub fn put_branch(
 {
     put_value(asm, alloc, globals, Reg::T0, condition, values)?;
     let label = edge_in(function, starts, block);
-    put_test(asm, alloc, op, Reg::X0, label)?;
+    put_test(asm, alloc, op, Reg::T0, Reg::X0, label)?;
     put_goto_edge(asm, alloc, globals, function, starts, block, fails, values)?;
     put_label(asm, label);
     put_last_edge(asm, alloc, globals, function, starts, block, holds, values)?;

@@ -14,7 +14,8 @@ ghost use Rattle.fast_isel_emit.specs.Operands.{is_operand};
 ghost use Rattle.fast_isel.specs.Taken.{are_cases, is_taken};
 ghost use Rattle.ir_flow.specs.Code.{is_phi as is_phi_op};
 
-use crate::jumps::{put_goto_edge, put_label, put_last_edge, put_test};
+use crate::jumps::{put_goto_edge, put_last_edge};
+use code_emit::labels::{put_label, put_test};
 use crate::starts::{Start, edge_in, insts_in, label_in};
 use fast_isel_emit::pieces::put_value;
 use ir_core::code::{Inst, Op, Operand};
@@ -114,7 +115,7 @@ fn put_case(
     ensures { OnOk result (asm.new ≡ put asm.old (plain (value_code globals.now T1 (Num number)) ++ Test Beq T0 T1 label ∷ [])) }
 {
     put_value(asm, alloc, globals, Reg::T1, Operand::Num(number), 0)?;
-    put_test(asm, alloc, BranchOp::Beq, Reg::T1, label)?;
+    put_test(asm, alloc, BranchOp::Beq, Reg::T0, Reg::T1, label)?;
     Ok(())
 }
 

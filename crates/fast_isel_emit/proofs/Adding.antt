@@ -14,9 +14,9 @@ use Rattle.ir_data.proofs.Fields.{none_past, offset_behind}
 use Rattle.rv_core.specs.declared.instr.Instr.{Instr}
 use Rattle.rv_asm.specs.Code.{Code}
 use Rattle.quick_code.specs.Parts.{Piece, Bytes, Times, sized, literal, of_field, piece, pieces_into, pieces, bytes_in, pieces_code, times_code, is_index, is_literal, is_step, are_steps}
-use Rattle.fast_isel_emit.specs.Written.{put_code}
+use Rattle.code_emit.specs.Written.{put_code}
 use Rattle.fast_isel_emit.specs.Operands.{is_index_at, are_indices}
-use Rattle.fast_isel_emit.proofs.Put.{code_code, code_none}
+use Rattle.code_emit.proofs.Put.{code_code, code_none}
 
 take_all : (xs : List (Ty × Operand)) (n : ℕ) → n ≡ length xs → take n xs ≡ xs
 take_all [] zero e = refl

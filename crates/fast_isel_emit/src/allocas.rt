@@ -5,16 +5,18 @@ ghost use Rattle.rv_core.specs.declared.reg.Reg.TheVariants.{X0, T0, T1, S11};
 ghost use Rattle.code_pieces.specs.Code.{const_code, store_value};
 ghost use Rattle.code_pieces.specs.Bytes.{save_code, restore_code, taken_bytes as taken_bytes_of};
 ghost use Rattle.quick_code.specs.Data.{is_alloca as is_alloca_op, insts_take as insts_take_data, blocks_take as blocks_take_data, takes_data as takes_data_of, alloca_code};
-ghost use Rattle.fast_isel_emit.specs.Written.{put_code};
+ghost use Rattle.code_emit.specs.Written.{put_code};
 
-use crate::pieces::{put_all, put_const, put_instr, put_load_at, put_store_at, put_store_value};
+use crate::pieces::put_store_value;
+use code_emit::bytes::put_stop;
+use code_emit::pieces::{put_const, put_instr, put_load_at, put_store_at};
 use ir_core::code::{Block, Inst, Op};
 use ir_core::program::Function;
 use ir_core::types::MemTy;
 use ir_flow::sizes::measure_of;
 use rj_num::NoMemory;
 use rv_asm::asm::Asm;
-use rv_core::instr::{BranchOp, ImmOp, Instr, RegOp};
+use rv_core::instr::{ImmOp, Instr, RegOp};
 use rv_core::reg::Reg;
 use std::alloc::Global;
 
@@ -57,7 +59,7 @@ pub fn takes_data(function: &Function) -> bool
 }
 
 /// Saves s11 in the frame of a function that has an alloca.
-#[tactic(auto, using(crate::proofs::Put::code_none))]
+#[tactic(auto, using(code_emit::proofs::Put::code_none))]
 pub fn put_save(asm: &mut Asm, alloc: Global, takes: bool, frame: u32) -> Result<(), NoMemory>
     requires large { 128 ≤ frame }
     requires small { frame ≤ 2 ^ 20 }
@@ -70,7 +72,7 @@ pub fn put_save(asm: &mut Asm, alloc: Global, takes: bool, frame: u32) -> Result
 }
 
 /// Restores s11 from the frame of a function that has an alloca.
-#[tactic(auto, using(crate::proofs::Put::code_none))]
+#[tactic(auto, using(code_emit::proofs::Put::code_none))]
 pub fn put_restore(asm: &mut Asm, alloc: Global, takes: bool, frame: u32) -> Result<(), NoMemory>
     requires large { 128 ≤ frame }
     requires small { frame ≤ 2 ^ 20 }
@@ -95,23 +97,8 @@ fn taken_bytes(of: &MemTy, count: u64) -> u64
     }
 }
 
-// The test of the new data top in t0 against the end in t1.
-fn put_stop(asm: &mut Asm, alloc: Global) -> Result<(), NoMemory>
-    ensures { OnOk result (asm.new ≡ put_code asm.old (Instr.Branch BranchOp.Bgeu T1 T0 (pos 12) ∷ Instr.Imm ImmOp.Addi T0 X0 (pos 2) ∷ Instr.Ecall ∷ [])) }
-{
-    put_all(
-        asm,
-        alloc,
-        &[
-            Instr::Branch(BranchOp::Bgeu, Reg::T1, Reg::T0, 12),
-            Instr::Imm(ImmOp::Addi, Reg::T0, Reg::X0, 2),
-            Instr::Ecall,
-        ],
-    )
-}
-
 // The old data top becomes the value, and the new one in t0 the data top.
-#[tactic(auto, using(crate::proofs::Put::code_code))]
+#[tactic(auto, using(code_emit::proofs::Put::code_code))]
 fn put_top(asm: &mut Asm, alloc: Global, value: u32) -> Result<(), NoMemory>
     requires { value ≤ 32764 }
     ensures { OnOk result (asm.new ≡ put_code asm.old (store_value S11 value ++ Instr.Imm ImmOp.Addi S11 T0 (pos 0) ∷ [])) }
@@ -121,7 +108,7 @@ fn put_top(asm: &mut Asm, alloc: Global, value: u32) -> Result<(), NoMemory>
 }
 
 /// An alloca of so many values of a type, in a data memory of so many bytes, which gives this value.
-#[tactic(auto, using(crate::proofs::Put::code_code))]
+#[tactic(auto, using(code_emit::proofs::Put::code_code))]
 pub fn put_alloca(
     asm: &mut Asm,
     alloc: Global,

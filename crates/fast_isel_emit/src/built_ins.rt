@@ -9,12 +9,13 @@ ghost use Rattle.ir_meaning.specs.Step.{moves_bytes as moves_bytes_of};
 ghost use Rattle.quick_code.specs.Data.{moved_code};
 ghost use Rattle.quick_code.specs.Narrow.{zero_extended, sign_extended, taken_second, built_in_code};
 ghost use Rattle.quick_code.specs.Operations.{values_code, built_in_operands, operation_code};
-ghost use Rattle.fast_isel_emit.specs.Written.{put_code};
+ghost use Rattle.code_emit.specs.Written.{put_code};
 ghost use Rattle.fast_isel_emit.specs.Operands.{is_width, is_built_in, are_arguments};
 
 use crate::moves::{moves_bytes, put_moved};
 use crate::operations::{put_one, put_two};
-use crate::pieces::{put_all, put_store_value, width_of};
+use crate::pieces::{put_store_value, width_of};
+use code_emit::pieces::put_all;
 use crate::work::{put_cut, put_sign};
 use ir_core::code::{BuiltIn, Operand};
 use ir_core::types::Ty;
@@ -46,7 +47,7 @@ fn put_unless(
 }
 
 // The same of numbers of a width with their signs.
-#[tactic(auto, using(crate::proofs::Put::code_code))]
+#[tactic(auto, using(code_emit::proofs::Put::code_code))]
 fn put_unless_less(
     asm: &mut Asm,
     alloc: Global,
@@ -65,7 +66,7 @@ fn put_unless_less(
 }
 
 // The difference of 0 and a number of a width that is below it.
-#[tactic(auto, using(crate::proofs::Put::code_code))]
+#[tactic(auto, using(code_emit::proofs::Put::code_code))]
 fn put_absolute(asm: &mut Asm, alloc: Global, width: u32) -> Result<(), NoMemory>
     requires some { 1 ≤ width }
     requires most { width ≤ 64 }
@@ -84,7 +85,7 @@ fn put_absolute(asm: &mut Asm, alloc: Global, width: u32) -> Result<(), NoMemory
 }
 
 // The work of a built-in on numbers of a width.
-#[tactic(auto, using(crate::proofs::Put::code_none))]
+#[tactic(auto, using(code_emit::proofs::Put::code_none))]
 fn put_built_in_work(
     asm: &mut Asm,
     alloc: Global,
@@ -128,7 +129,7 @@ fn put_operands(
 }
 
 // A built-in that gives this value.
-#[tactic(auto, using(crate::proofs::Put::code_code))]
+#[tactic(auto, using(code_emit::proofs::Put::code_code))]
 fn put_value_built_in(
     asm: &mut Asm,
     alloc: Global,

@@ -2,10 +2,11 @@
 ghost use Rattle.std.specs.Prelude.{◌≡◌, ◌≤◌, [], ◌∷◌, OnOk, true};
 ghost use Rattle.ir_core.specs.declared.code.Op.TheVariants.{Binary, Icmp, Cast, Select, Freeze, Load};
 ghost use Rattle.quick_code.specs.Operations.{values_code, choice_code, operation_code, keeping_code, load_op as load_op_of_width, store_op as store_op_of_width};
-ghost use Rattle.fast_isel_emit.specs.Written.{put_code};
+ghost use Rattle.code_emit.specs.Written.{put_code};
 ghost use Rattle.fast_isel_emit.specs.Operands.{is_width, is_operand};
 
-use crate::pieces::{put_all, put_instr, put_store_value, put_value, width_of};
+use crate::pieces::{put_store_value, put_value, width_of};
+use code_emit::pieces::{put_all, put_instr};
 use crate::work::{put_cast_work, put_comparison, put_operator};
 use ir_core::code::{BinOp, CastOp, Flags, Operand, Pred};
 use ir_core::types::Ty;
@@ -74,7 +75,7 @@ pub fn put_three(
 }
 
 /// An operator of two operands, which gives this value.
-#[tactic(auto, using(crate::proofs::Put::code_code))]
+#[tactic(auto, using(code_emit::proofs::Put::code_code))]
 pub fn put_binary(
     asm: &mut Asm,
     alloc: Global,
@@ -100,7 +101,7 @@ pub fn put_binary(
 }
 
 /// A compare of two operands of a type, which gives this value.
-#[tactic(auto, using(crate::proofs::Put::code_code))]
+#[tactic(auto, using(code_emit::proofs::Put::code_code))]
 pub fn put_compare(
     asm: &mut Asm,
     alloc: Global,
@@ -127,7 +128,7 @@ pub fn put_compare(
 }
 
 /// A cast of an operand from a type, which gives this value.
-#[tactic(auto, using(crate::proofs::Put::code_code))]
+#[tactic(auto, using(code_emit::proofs::Put::code_code))]
 pub fn put_cast(
     asm: &mut Asm,
     alloc: Global,
@@ -167,7 +168,7 @@ fn put_chosen(asm: &mut Asm, alloc: Global) -> Result<(), NoMemory>
 }
 
 /// The choice of one of two operands, which gives this value.
-#[tactic(auto, using(crate::proofs::Put::code_code))]
+#[tactic(auto, using(code_emit::proofs::Put::code_code))]
 pub fn put_choice(
     asm: &mut Asm,
     alloc: Global,
@@ -192,7 +193,7 @@ pub fn put_choice(
 }
 
 /// A freeze of an operand, which gives this value.
-#[tactic(auto, using(crate::proofs::Put::code_code))]
+#[tactic(auto, using(code_emit::proofs::Put::code_code))]
 pub fn put_same(
     asm: &mut Asm,
     alloc: Global,
@@ -235,7 +236,7 @@ fn store_op(width: u32) -> StoreOp
 }
 
 /// A load from an address, which gives this value.
-#[tactic(auto, using(crate::proofs::Put::code_code))]
+#[tactic(auto, using(code_emit::proofs::Put::code_code))]
 pub fn put_load(
     asm: &mut Asm,
     alloc: Global,
@@ -258,7 +259,7 @@ pub fn put_load(
 }
 
 /// A store of an operand of a type at an address.
-#[tactic(auto, using(crate::proofs::Put::code_code))]
+#[tactic(auto, using(code_emit::proofs::Put::code_code))]
 pub fn put_store(
     asm: &mut Asm,
     alloc: Global,

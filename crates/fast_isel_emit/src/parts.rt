@@ -10,11 +10,12 @@ ghost use Rattle.rv_core.specs.declared.instr.Instr.TheVariants.{Op as RegisterO
 ghost use Rattle.code_pieces.specs.Code.{const_code};
 ghost use Rattle.quick_code.specs.Operations.{operation_code};
 ghost use Rattle.quick_code.specs.Parts.{sized, literal as literal_of, pieces, pieces_into, pieces_code, bytes_in, exponent, scale_code, times_code, twelve, bytes_code, is_path, are_steps};
-ghost use Rattle.fast_isel_emit.specs.Written.{put_code};
+ghost use Rattle.code_emit.specs.Written.{put_code};
 ghost use Rattle.fast_isel_emit.specs.Operands.{is_operand, is_integer, is_index_at, are_indices};
 
 use crate::operations::put_one;
-use crate::pieces::{put_const, put_instr, put_load_at, put_store_value};
+use crate::pieces::put_store_value;
+use code_emit::pieces::{put_const, put_instr, put_load_at};
 use crate::work::put_sign;
 use ir_core::code::Operand;
 use ir_core::layout::{field_offset, size_of};
@@ -66,7 +67,7 @@ fn exponent_of(size: u64) -> Option<u32>
 }
 
 // Multiplies t1 by a size: by a shift where that is a power of two.
-#[tactic(auto, using(crate::proofs::Put::code_none))]
+#[tactic(auto, using(code_emit::proofs::Put::code_none))]
 fn put_scale(asm: &mut Asm, alloc: Global, size: u64) -> Result<(), NoMemory>
     ensures { OnOk result (asm.new ≡ put_code asm.old (scale_code size)) }
 {
@@ -83,7 +84,7 @@ fn put_scale(asm: &mut Asm, alloc: Global, size: u64) -> Result<(), NoMemory>
     }
 }
 
-#[tactic(auto, using(crate::proofs::Put::code_code))]
+#[tactic(auto, using(code_emit::proofs::Put::code_code))]
 fn put_product(asm: &mut Asm, alloc: Global, size: u64) -> Result<(), NoMemory>
     ensures { OnOk result (asm.new ≡ put_code asm.old (const_code 3 T2 size ++ RegisterOp Mul T1 T1 T2 ∷ [])) }
 {
@@ -92,7 +93,7 @@ fn put_product(asm: &mut Asm, alloc: Global, size: u64) -> Result<(), NoMemory>
 }
 
 // Adds a size for each of a value's number to t0.
-#[tactic(auto, using(crate::proofs::Put::code_code))]
+#[tactic(auto, using(code_emit::proofs::Put::code_code))]
 fn put_times(
     asm: &mut Asm,
     alloc: Global,
@@ -112,7 +113,7 @@ fn put_times(
 }
 
 // What an index adds of a size: the code of a value, and the bytes of a literal behind those so far, modulo two to 64.
-#[tactic(auto, using(crate::proofs::Put::code_none))]
+#[tactic(auto, using(code_emit::proofs::Put::code_none))]
 fn put_index(
     asm: &mut Asm,
     alloc: Global,
@@ -215,7 +216,7 @@ fn twelve_of(count: u64) -> Option<i32>
 }
 
 // Adds so many bytes to t0.
-#[tactic(auto, using(crate::proofs::Put::code_none))]
+#[tactic(auto, using(code_emit::proofs::Put::code_none))]
 fn put_bytes(asm: &mut Asm, alloc: Global, count: u64) -> Result<(), NoMemory>
     ensures { OnOk result (asm.new ≡ put_code asm.old (bytes_code count)) }
 {
@@ -228,7 +229,7 @@ fn put_bytes(asm: &mut Asm, alloc: Global, count: u64) -> Result<(), NoMemory>
     }
 }
 
-#[tactic(auto, using(crate::proofs::Put::code_code))]
+#[tactic(auto, using(code_emit::proofs::Put::code_code))]
 fn put_sum(asm: &mut Asm, alloc: Global, count: u64) -> Result<(), NoMemory>
     ensures { OnOk result (asm.new ≡ put_code asm.old (const_code 3 T1 count ++ RegisterOp Add T0 T0 T1 ∷ [])) }
 {
@@ -237,7 +238,7 @@ fn put_sum(asm: &mut Asm, alloc: Global, count: u64) -> Result<(), NoMemory>
 }
 
 /// The address of a part of a type, from a base on, which gives this value.
-#[tactic(auto, using(crate::proofs::Put::code_code))]
+#[tactic(auto, using(code_emit::proofs::Put::code_code))]
 pub fn put_part(
     asm: &mut Asm,
     alloc: Global,

@@ -4,9 +4,9 @@ ghost use Rattle.rv_core.specs.Instr.{AreValid, Fits12};
 ghost use Rattle.rv_core.specs.declared.reg.Reg.TheVariants.{T0, T1};
 ghost use Rattle.rv_core.specs.declared.instr.Instr.TheVariants.{Op as RegisterOp};
 ghost use Rattle.quick_code.specs.Narrow.{zero_extended, sign_extended, binary_code, compare_code, cast_code};
-ghost use Rattle.fast_isel_emit.specs.Written.{put_code};
+ghost use Rattle.code_emit.specs.Written.{put_code};
 
-use crate::pieces::{put_all, put_instr};
+use code_emit::pieces::{put_all, put_instr};
 use ir_core::code::{BinOp, CastOp, Pred};
 use rj_num::NoMemory;
 use rv_asm::asm::Asm;
@@ -32,7 +32,7 @@ fn ones(width: u32) -> i32
 }
 
 /// Cuts a register to a width.
-#[tactic(auto, using(crate::proofs::Put::code_none))]
+#[tactic(auto, using(code_emit::proofs::Put::code_none))]
 pub fn put_cut(asm: &mut Asm, alloc: Global, width: u32, register: Reg) -> Result<(), NoMemory>
     requires some { 1 ≤ width }
     requires most { width ≤ 64 }
@@ -60,7 +60,7 @@ pub fn put_cut(asm: &mut Asm, alloc: Global, width: u32, register: Reg) -> Resul
 }
 
 /// Extends a register's sign from a width.
-#[tactic(auto, using(crate::proofs::Put::code_none))]
+#[tactic(auto, using(code_emit::proofs::Put::code_none))]
 pub fn put_sign(asm: &mut Asm, alloc: Global, width: u32, register: Reg) -> Result<(), NoMemory>
     requires some { 1 ≤ width }
     requires most { width ≤ 64 }
@@ -91,7 +91,7 @@ fn put_op(asm: &mut Asm, alloc: Global, op: RegOp) -> Result<(), NoMemory>
 }
 
 // An operation whose result is cut.
-#[tactic(auto, using(crate::proofs::Put::code_code))]
+#[tactic(auto, using(code_emit::proofs::Put::code_code))]
 fn put_cut_op(asm: &mut Asm, alloc: Global, op: RegOp, width: u32) -> Result<(), NoMemory>
     requires some { 1 ≤ width }
     requires most { width ≤ 64 }
@@ -102,7 +102,7 @@ fn put_cut_op(asm: &mut Asm, alloc: Global, op: RegOp, width: u32) -> Result<(),
 }
 
 // An operation on both operands with their signs, that on words where they are such.
-#[tactic(auto, using(crate::proofs::Put::code_code))]
+#[tactic(auto, using(code_emit::proofs::Put::code_code))]
 fn put_signed_op(
     asm: &mut Asm,
     alloc: Global,
@@ -123,7 +123,7 @@ fn put_signed_op(
 }
 
 // A shift to the right that copies the sign.
-#[tactic(auto, using(crate::proofs::Put::code_code))]
+#[tactic(auto, using(code_emit::proofs::Put::code_code))]
 fn put_sign_shift(asm: &mut Asm, alloc: Global, width: u32) -> Result<(), NoMemory>
     requires some { 1 ≤ width }
     requires most { width ≤ 64 }
@@ -160,7 +160,7 @@ pub fn put_operator(asm: &mut Asm, alloc: Global, op: BinOp, width: u32) -> Resu
 }
 
 // Instructions on both operands with their signs.
-#[tactic(auto, using(crate::proofs::Put::code_code))]
+#[tactic(auto, using(code_emit::proofs::Put::code_code))]
 fn put_signed(asm: &mut Asm, alloc: Global, width: u32, instrs: &[Instr]) -> Result<(), NoMemory>
     requires some { 1 ≤ width }
     requires most { width ≤ 64 }
@@ -201,7 +201,7 @@ pub fn put_comparison(asm: &mut Asm, alloc: Global, pred: Pred, width: u32) -> R
 }
 
 // A number's sign is extended from a width to another.
-#[tactic(auto, using(crate::proofs::Put::code_code))]
+#[tactic(auto, using(code_emit::proofs::Put::code_code))]
 fn put_sign_between(asm: &mut Asm, alloc: Global, from: u32, to: u32) -> Result<(), NoMemory>
     requires some_from { 1 ≤ from }
     requires most_from { from ≤ 64 }
@@ -214,7 +214,7 @@ fn put_sign_between(asm: &mut Asm, alloc: Global, from: u32, to: u32) -> Result<
 }
 
 /// A cast of the number in t0 from a width to another.
-#[tactic(auto, using(crate::proofs::Put::code_none))]
+#[tactic(auto, using(code_emit::proofs::Put::code_none))]
 pub fn put_cast_work(
     asm: &mut Asm,
     alloc: Global,

@@ -4,7 +4,7 @@ use Rattle.code_pieces.specs.Bytes.{save_code}
 use Rattle.quick_code.specs.Data.{takes_data}
 use Rattle.quick_code.specs.Blocks.{block_label, label_count, arguments_code}
 use Rattle.code_pieces.specs.Assembly.{labelled}
-use Rattle.fast_isel_emit.specs.Written.{put_code}
+use Rattle.code_emit.specs.Written.{put_code}
 use Rattle.fast_isel.proofs.Joins.{function_put, function_free}
 use Rattle.fast_isel.proofs.blocks.code_of.Goals as goal
 

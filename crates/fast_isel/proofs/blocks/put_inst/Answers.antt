@@ -11,8 +11,8 @@ use Rattle.ir_meaning.specs.Step.{moves_bytes}
 use Rattle.quick_code.specs.Data.{takes_data, moved_code}
 use Rattle.quick_code.specs.Forms.{IsJump}
 use Rattle.code_pieces.specs.Assembly.{put}
-use Rattle.fast_isel_emit.specs.Written.{put_code}
-use Rattle.fast_isel_emit.proofs.Put.{code_is}
+use Rattle.code_emit.specs.Written.{put_code}
+use Rattle.code_emit.proofs.Put.{code_is}
 use Rattle.fast_isel.proofs.Counts.{label_below}
 use Rattle.fast_isel.proofs.blocks.put_inst.Goals as goal
 

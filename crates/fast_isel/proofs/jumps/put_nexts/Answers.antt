@@ -1,7 +1,7 @@
 use Rattle.std.proofs.Common.{ap, ◌∙◌, arith, length}
 use Rattle.ir_meaning.specs.Step.{number_at, on_edge}
 use Rattle.quick_code.specs.Blocks.{next_code}
-use Rattle.fast_isel_emit.specs.Written.{put_code}
+use Rattle.code_emit.specs.Written.{put_code}
 use Rattle.fast_isel.specs.Taken.{are_edge_operands}
 use Rattle.fast_isel.proofs.Counts.{number-most}
 use Rattle.fast_isel.proofs.Joins.{stands_at, phi_form, phi_number, phi_none, none_left, next_more, nexts_done}

@@ -3,7 +3,7 @@ use Rattle.rv_core.specs.declared.reg.Reg.TheVariants.{T0}
 use Rattle.ir_meaning.specs.Step.{number_at}
 use Rattle.code_pieces.specs.Code.{store_value}
 use Rattle.quick_code.specs.Blocks.{load_next}
-use Rattle.fast_isel_emit.specs.Written.{put_code}
+use Rattle.code_emit.specs.Written.{put_code}
 use Rattle.fast_isel.proofs.Counts.{number-most}
 use Rattle.fast_isel.proofs.Joins.{stands_at, phi_form, phi_first, phi_number, phi_none, none_left, phis_more, phis_done}
 use Rattle.fast_isel.proofs.jumps.put_phis.Goals as goal

@@ -2,7 +2,7 @@ use Rattle.std.proofs.Common.{◌≡◌, ◌+◌, drop, true, length}
 use Rattle.ir_meaning.specs.Step.{insts_at, number_at, phis}
 use Rattle.quick_code.specs.Blocks.{phis_code}
 use Rattle.fast_isel.specs.Taken.{are_forms}
-use Rattle.fast_isel_emit.specs.Written.{put_code}
+use Rattle.code_emit.specs.Written.{put_code}
 use Rattle.fast_isel.proofs.jumps.put_phis.Given as goal
 
 abbrev pub invariant-loop-inst : goal.invariant-loop-inst

@@ -1,7 +1,7 @@
 use Rattle.std.proofs.Common.{ap, ◌∙◌}
 use Rattle.rv_core.specs.declared.reg.Reg.TheVariants.{T0}
 use Rattle.code_pieces.specs.Code.{const_code}
-use Rattle.fast_isel_emit.specs.Written.{put_code}
+use Rattle.code_emit.specs.Written.{put_code}
 use Rattle.fast_isel_emit.proofs.Put.{five_code}
 use Rattle.fast_isel_emit.proofs.allocas.put_alloca.Goals as goal
 

@@ -1,6 +1,6 @@
 use Rattle.std.proofs.Common.{sym, ap, ◌∙◌}
-use Rattle.fast_isel_emit.specs.Written.{put_code}
-use Rattle.fast_isel_emit.proofs.Put.{code_none}
+use Rattle.code_emit.specs.Written.{put_code}
+use Rattle.code_emit.proofs.Put.{code_none}
 use Rattle.fast_isel_emit.proofs.Given.{few_arguments}
 use Rattle.fast_isel_emit.proofs.moves.put_moved.Goals as goal
 

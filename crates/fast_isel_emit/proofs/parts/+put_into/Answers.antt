@@ -8,8 +8,8 @@ use Rattle.ir_core.specs.Layout.{HasSizesWithin}
 use Rattle.quick_code.specs.Parts.{Piece, Bytes, sized, pieces_into, pieces_code, bytes_in}
 use Rattle.ir_data.proofs.Sizes.{element_within}
 use Rattle.ir_data.proofs.Fields.{field_within}
-use Rattle.fast_isel_emit.specs.Written.{put_code}
-use Rattle.fast_isel_emit.proofs.Put.{code_none}
+use Rattle.code_emit.specs.Written.{put_code}
+use Rattle.code_emit.proofs.Put.{code_none}
 use Rattle.fast_isel_emit.proofs.Adding.{none_into, array_all, array_steps, struct_all, struct_none, struct_steps, two_pieces, two_counts, indices_apart, rest_of}
 use Rattle.fast_isel_emit.proofs.parts.+put_into.Goals as goal
 

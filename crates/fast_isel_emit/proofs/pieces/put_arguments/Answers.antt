@@ -2,7 +2,7 @@ use Rattle.std.proofs.Common.{ap, ◌+◌, ◌∙◌, arith, get_or}
 use Rattle.ir_core.specs.declared.types.Ty.TheVariants.{Void}
 use Rattle.ir_core.specs.declared.code.Operand.TheVariants.{Value}
 use Rattle.quick_code.specs.Operations.{value_code}
-use Rattle.fast_isel_emit.specs.Written.{put_code}
+use Rattle.code_emit.specs.Written.{put_code}
 use Rattle.fast_isel_emit.proofs.Put.{args_more, args_done}
 use Rattle.fast_isel_emit.proofs.Left.{argument_first}
 use Rattle.fast_isel_emit.proofs.pieces.put_arguments.Goals as goal

@@ -1,7 +1,7 @@
 use Rattle.std.proofs.Common.{◌≡◌, ◌+◌, drop, map, true}
 use Rattle.quick_code.specs.Operations.{values_code}
 use Rattle.fast_isel_emit.specs.Operands.{are_arguments}
-use Rattle.fast_isel_emit.specs.Written.{put_code}
+use Rattle.code_emit.specs.Written.{put_code}
 use Rattle.fast_isel_emit.proofs.pieces.put_arguments.Given as goal
 
 abbrev pub invariant-loop-argument : goal.invariant-loop-argument

@@ -1,7 +1,7 @@
 use Rattle.std.proofs.Common.{◌≡◌, drop, true}
 use Rattle.quick_code.specs.Blocks.{arguments_code}
 use Rattle.fast_isel_emit.specs.Operands.{are_widths}
-use Rattle.fast_isel_emit.specs.Written.{put_code}
+use Rattle.code_emit.specs.Written.{put_code}
 use Rattle.fast_isel_emit.proofs.pieces.put_parameters.Given as goal
 
 abbrev pub invariant-loop-ty : goal.invariant-loop-ty

@@ -4,9 +4,9 @@ use Rattle.rv_core.specs.declared.reg.Reg.TheVariants.{X0, T0, T2}
 use Rattle.rv_core.specs.declared.instr.ImmOp.TheVariants.{Addi}
 use Rattle.rv_core.specs.declared.instr.BranchOp.TheVariants.{Bgeu}
 use Rattle.rv_core.specs.declared.instr.Instr.TheVariants.{Lui, Branch, Imm, Ecall}
-use Rattle.fast_isel_emit.specs.Written.{put_code}
-use Rattle.fast_isel_emit.proofs.Put.{prologue_put}
-use Rattle.fast_isel_emit.proofs.pieces.put_prologue.Goals as goal
+use Rattle.code_emit.specs.Written.{put_code}
+use Rattle.code_emit.proofs.Put.{prologue_put}
+use Rattle.code_emit.proofs.frame.put_prologue.Goals as goal
 
 pub returns : goal.returns
 returns c =

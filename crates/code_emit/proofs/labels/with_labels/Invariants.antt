@@ -1,6 +1,6 @@
 use Rattle.std.proofs.Common.{◌≡◌}
 use Rattle.code_pieces.specs.Assembly.{labelled}
-use Rattle.fast_isel.proofs.blocks.with_labels.Given as goal
+use Rattle.code_emit.proofs.labels.with_labels.Given as goal
 
 abbrev pub invariant-loop-label : goal.invariant-loop-label
 invariant-loop-label l = l.asm ≡ labelled l._label

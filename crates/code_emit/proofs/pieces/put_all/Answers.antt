@@ -1,5 +1,5 @@
-use Rattle.fast_isel_emit.proofs.Put.{instr_more, instrs_done, valid-at}
-use Rattle.fast_isel_emit.proofs.pieces.put_all.Goals as goal
+use Rattle.code_emit.proofs.Put.{instr_more, instrs_done, valid-at}
+use Rattle.code_emit.proofs.pieces.put_all.Goals as goal
 
 pub put_instr-requires : goal.put_instr-requires
 put_instr-requires c = valid-at _ _ _ c.requires c.loop-instr-test.true
