@@ -16,14 +16,14 @@ ghost use Rattle.quick_code.specs.Forms.{IsFlow, IsJump};
 use crate::jumps::{put_branch, put_last_edge, put_phis};
 use crate::starts::{Start, first_in, insts_in, label_in, starts_of};
 use crate::switches::put_switch;
+use code_emit::frame::put_prologue;
+use code_emit::labels::{put_label, with_labels};
 use fast_isel_emit::allocas::{put_alloca, put_save, takes_data};
 use fast_isel_emit::built_ins::put_built_in;
 use fast_isel_emit::operations::{
     put_binary, put_cast, put_choice, put_compare, put_load, put_same, put_store,
 };
 use fast_isel_emit::parts::put_part;
-use code_emit::frame::put_prologue;
-use code_emit::labels::{put_label, with_labels};
 use fast_isel_emit::pieces::{put_call, put_parameters, put_return};
 use ir_core::code::{Inst, Op, Operand};
 use ir_core::program::Function;

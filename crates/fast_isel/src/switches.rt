@@ -15,8 +15,8 @@ ghost use Rattle.fast_isel.specs.Taken.{are_cases, is_taken};
 ghost use Rattle.ir_flow.specs.Code.{is_phi as is_phi_op};
 
 use crate::jumps::{put_goto_edge, put_last_edge};
-use code_emit::labels::{put_label, put_test};
 use crate::starts::{Start, edge_in, insts_in, label_in};
+use code_emit::labels::{put_label, put_test};
 use fast_isel_emit::pieces::put_value;
 use ir_core::code::{Inst, Op, Operand};
 use ir_core::program::Function;

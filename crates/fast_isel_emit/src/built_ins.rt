@@ -15,8 +15,8 @@ ghost use Rattle.fast_isel_emit.specs.Operands.{is_width, is_built_in, are_argum
 use crate::moves::{moves_bytes, put_moved};
 use crate::operations::{put_one, put_two};
 use crate::pieces::{put_store_value, width_of};
-use code_emit::pieces::put_all;
 use crate::work::{put_cut, put_sign};
+use code_emit::pieces::put_all;
 use ir_core::code::{BuiltIn, Operand};
 use ir_core::types::Ty;
 use ir_data::addresses::Places;

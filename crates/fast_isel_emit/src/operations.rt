@@ -6,8 +6,8 @@ ghost use Rattle.code_emit.specs.Written.{put_code};
 ghost use Rattle.fast_isel_emit.specs.Operands.{is_width, is_operand};
 
 use crate::pieces::{put_store_value, put_value, width_of};
-use code_emit::pieces::{put_all, put_instr};
 use crate::work::{put_cast_work, put_comparison, put_operator};
+use code_emit::pieces::{put_all, put_instr};
 use ir_core::code::{BinOp, CastOp, Flags, Operand, Pred};
 use ir_core::types::Ty;
 use ir_data::addresses::Places;

@@ -15,8 +15,8 @@ ghost use Rattle.fast_isel_emit.specs.Operands.{is_operand, is_integer, is_index
 
 use crate::operations::put_one;
 use crate::pieces::put_store_value;
-use code_emit::pieces::{put_const, put_instr, put_load_at};
 use crate::work::put_sign;
+use code_emit::pieces::{put_const, put_instr, put_load_at};
 use ir_core::code::Operand;
 use ir_core::layout::{field_offset, size_of};
 use ir_core::types::{MemTy, Ty};

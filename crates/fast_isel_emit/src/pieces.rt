@@ -12,9 +12,7 @@ ghost use Rattle.fast_isel_emit.specs.Operands.{is_width, are_widths, is_given, 
 use crate::allocas::put_restore;
 use crate::work::put_cut;
 use code_emit::frame::put_leave;
-use code_emit::pieces::{
-    argument_register, put_call_of, put_const, put_load_at, put_store_at,
-};
+use code_emit::pieces::{argument_register, put_call_of, put_const, put_load_at, put_store_at};
 use ir_core::code::Operand;
 use ir_core::types::Ty;
 use ir_data::addresses::Places;

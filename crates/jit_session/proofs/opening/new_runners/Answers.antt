@@ -75,6 +75,6 @@ loop-seat-preserved g c =
       room = c.push_reserved.ensures.capacity ∙ inv.room;
     }
 
-pub returns-clause-all : goal.returns-in-Some-pop-2-clause-all
+pub returns-clause-all : goal.returns-clause-all
 returns-clause-all g c =
     (All-pop (counts.IsNewSeat c.args.tally.now) c.loop-seat.left.items c.pop-2.new.self.items (Some c.in-Some-pop-2.all) c.in-Some-pop-2.ensures.items c.loop-seat.invariant.spare).1
