@@ -1,0 +1,8 @@
+use Rattle.std.proofs.Common.{◌≡◌, ◌-◌}
+use Rattle.frame_code.specs.Frame.{used, used_from}
+use Rattle.frame_code.specs.Code.{restore_code}
+use Rattle.code_emit.specs.Written.{put_code}
+use Rattle.frame_out.proofs.frames.put_restores.Given as goal
+
+abbrev pub invariant-loop-number : goal.invariant-loop-number
+invariant-loop-number l = put_code l.asm (restore_code l.fn.frame (used_from l.fn.places l.number (11 - l.number))) ≡ put_code l.fn.asm (restore_code l.fn.frame (used l.fn.places))

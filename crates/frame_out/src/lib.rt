@@ -1,0 +1,8 @@
+//! The words of functions of target code whose registers have places.
+#![tactic(auto)]
+
+pub mod blocks;
+pub mod frames;
+pub mod insts;
+pub mod layout;
+pub mod stands;
