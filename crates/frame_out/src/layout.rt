@@ -13,8 +13,7 @@ ghost use Rattle.frame_code.specs.Assembly.{code_of as code_of_function, IsLaidO
 ghost use Rattle.frame_out.specs.Ready.{IsReady};
 ghost use Rattle.frame_out.specs.Words.{AreGood};
 
-use crate::blocks::put_blocks;
-use crate::frames::{put_entry, taken};
+use crate::placed::Placed;
 use code_emit::labels::with_labels;
 use mir::code::MFunction;
 use mir::places::Places;
@@ -31,20 +30,17 @@ fn code_of(alloc: Global, function: &MFunction, places: &Places) -> Result<Asm, 
     requires ready { (b place : ℕ) (inst : Inst) → inst_at function.now b place ≡ Some inst → IsReady places.now inst }
     ensures { IfOk result (λ asm. asm ≡ code_of_function function.now places.now) }
 {
+    let placed = Placed::new(function, places);
     let count = function.blocks.len() as u32;
     let mut asm = with_labels(alloc, count)?;
-    put_entry(&mut asm, alloc, function, places)?;
-    put_blocks(&mut asm, alloc, function, places, taken(function), count)?;
+    placed.put_entry(&mut asm, alloc)?;
+    placed.put_blocks(&mut asm, alloc, count)?;
     Ok(asm)
 }
 
 /// The words of a function whose registers have these places: a register stands in s0 to s10 or in a slot of the frame, and operands in slots go through t0 to t2. Where the function
 /// is compiled from one of a typed module with at most eight parameters, the words are a good version of that.
-pub fn lay_out(
-    alloc: Global,
-    function: &MFunction,
-    places: &Places,
-) -> Result<Items<u32>, NoMemory>
+pub fn lay_out(alloc: Global, function: &MFunction, places: &Places) -> Result<Items<u32>, NoMemory>
     requires formed { IsWellFormed function.now }
     requires without_phi { HasNoPhi function.now }
     requires fits { (intervals : Intervals) × Covers function.now intervals × Fits intervals (slots_of function.now.values) places.now }

@@ -5,4 +5,6 @@ pub mod blocks;
 pub mod frames;
 pub mod insts;
 pub mod layout;
+pub mod memory;
+pub mod placed;
 pub mod stands;

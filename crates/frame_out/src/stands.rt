@@ -137,12 +137,7 @@ pub fn put_store_place(
 
 // An instruction that works on registers, and its result to its place.
 #[tactic(auto, using(code_emit::proofs::Put::code_code))]
-fn put_kept(
-    asm: &mut Asm,
-    alloc: Global,
-    instr: Instr,
-    to: Option<Place>,
-) -> Result<(), NoMemory>
+fn put_kept(asm: &mut Asm, alloc: Global, instr: Instr, to: Option<Place>) -> Result<(), NoMemory>
     requires valid { IsValid instr }
     requires to { IsNear to }
     ensures { OnOk result (asm.new ≡ put_code asm.old (instr ∷ keep_code T0 to)) }
@@ -239,12 +234,7 @@ pub fn put_move(
 
 // A move into a slot.
 #[tactic(auto, using(code_emit::proofs::Put::code_code))]
-fn put_move_down(
-    asm: &mut Asm,
-    alloc: Global,
-    slot: u32,
-    a: Option<Place>,
-) -> Result<(), NoMemory>
+fn put_move_down(asm: &mut Asm, alloc: Global, slot: u32, a: Option<Place>) -> Result<(), NoMemory>
     requires slot { 8 * slot + 8 ≤ 2 ^ 20 }
     requires a { IsNear a }
     ensures { OnOk result (asm.new ≡ put_code asm.old (move_code (Some (Place.Slot slot)) a)) }
@@ -293,12 +283,7 @@ pub fn put_store(
     requires offset { Fits12 offset }
     ensures { OnOk result (asm.new ≡ put_code asm.old (store_code op a b offset)) }
 {
-    let instr = Instr::Store(
-        op,
-        register_of(Reg::T0, a),
-        register_of(Reg::T1, b),
-        offset,
-    );
+    let instr = Instr::Store(op, register_of(Reg::T0, a), register_of(Reg::T1, b), offset);
     put_fetch(asm, alloc, Reg::T0, a)?;
     put_fetch(asm, alloc, Reg::T1, b)?;
     put_instr(asm, alloc, instr)?;

@@ -1,7 +1,7 @@
 use Rattle.std.proofs.Common.{◌≡◌, ◌≤◌, ◌+◌, ◌^◌, drop}
 use Rattle.code_pieces.specs.Bytes.{taken_bytes}
 use Rattle.frame_code.specs.Code.{taken_in}
-use Rattle.frame_out.proofs.frames.taken_by_all.Given as goal
+use Rattle.frame_out.proofs.memory.taken_by_all.Given as goal
 
 abbrev pub invariant-loop-inst : goal.invariant-loop-inst
 invariant-loop-inst l = record {
