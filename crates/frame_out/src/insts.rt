@@ -1,5 +1,6 @@
 // The code of instructions.
 ghost use Rattle.std.specs.Prelude.{◌≡◌, ◌+◌, ◌*◌, ◌^◌, ◌<◌, ◌≤◌, ◌==◌, [], ◌∷◌, ◌++◌, if◌then◌else◌, length, OnOk};
+ghost use Rattle.mir.specs.Places.{place_of};
 ghost use Rattle.mir.specs.declared.code.MInst.TheVariants.{Return as Returns};
 ghost use Rattle.code_pieces.specs.Code.{call_code};
 ghost use Rattle.code_pieces.specs.Bytes.{move_code as copy_code, fill_code};
@@ -28,42 +29,6 @@ use rv_core::instr::{BranchOp, Instr};
 use rv_core::reg::Reg;
 use sqlite_items::Items;
 use std::alloc::Global;
-
-// Copies bytes.
-#[tactic(auto, using(code_emit::proofs::Put::code_code))]
-fn put_copy(
-    asm: &mut Asm,
-    alloc: Global,
-    to: Option<Place>,
-    from: Option<Place>,
-    count: Option<Place>,
-) -> Result<(), NoMemory>
-    requires to { IsNear to }
-    requires from { IsNear from }
-    requires count { IsNear count }
-    ensures { OnOk result (asm.new ≡ put_code asm.old (bytes_code to from count ++ copy_code)) }
-{
-    put_bytes(asm, alloc, to, from, count)?;
-    bytes::put_copy(asm, alloc)
-}
-
-// Fills bytes.
-#[tactic(auto, using(code_emit::proofs::Put::code_code))]
-fn put_fill(
-    asm: &mut Asm,
-    alloc: Global,
-    to: Option<Place>,
-    byte: Option<Place>,
-    count: Option<Place>,
-) -> Result<(), NoMemory>
-    requires to { IsNear to }
-    requires byte { IsNear byte }
-    requires count { IsNear count }
-    ensures { OnOk result (asm.new ≡ put_code asm.old (bytes_code to byte count ++ fill_code)) }
-{
-    put_bytes(asm, alloc, to, byte, count)?;
-    bytes::put_fill(asm, alloc)
-}
 
 // A jump from a block, where the other isn't the next one.
 #[tactic(auto, using(code_emit::proofs::Put::put_none))]
@@ -146,6 +111,44 @@ impl Placed<'_> {
         self.put_answer(asm, alloc, results.as_slice())
     }
 
+    // Copies bytes.
+    #[tactic(auto, using(code_emit::proofs::Put::code_code))]
+    fn put_copy(
+        &self,
+        asm: &mut Asm,
+        alloc: Global,
+        to: u32,
+        from: u32,
+        count: u32,
+    ) -> Result<(), NoMemory>
+        requires to { IsNear (place_of self.now.places.now to) }
+        requires from { IsNear (place_of self.now.places.now from) }
+        requires count { IsNear (place_of self.now.places.now count) }
+        ensures { OnOk result (asm.new ≡ put_code asm.old (bytes_code (place_of self.now.places.now to) (place_of self.now.places.now from) (place_of self.now.places.now count) ++ copy_code)) }
+    {
+        put_bytes(asm, alloc, self.at(to), self.at(from), self.at(count))?;
+        bytes::put_copy(asm, alloc)
+    }
+
+    // Fills bytes.
+    #[tactic(auto, using(code_emit::proofs::Put::code_code))]
+    fn put_fill(
+        &self,
+        asm: &mut Asm,
+        alloc: Global,
+        to: u32,
+        byte: u32,
+        count: u32,
+    ) -> Result<(), NoMemory>
+        requires to { IsNear (place_of self.now.places.now to) }
+        requires byte { IsNear (place_of self.now.places.now byte) }
+        requires count { IsNear (place_of self.now.places.now count) }
+        ensures { OnOk result (asm.new ≡ put_code asm.old (bytes_code (place_of self.now.places.now to) (place_of self.now.places.now byte) (place_of self.now.places.now count) ++ fill_code)) }
+    {
+        put_bytes(asm, alloc, self.at(to), self.at(byte), self.at(count))?;
+        bytes::put_fill(asm, alloc)
+    }
+
     // The result into a0.
     #[tactic(auto, using(code_emit::proofs::Put::code_none))]
     fn put_result(&self, asm: &mut Asm, alloc: Global, results: &[u32]) -> Result<(), NoMemory>
@@ -196,20 +199,8 @@ impl Placed<'_> {
                 asm, alloc, *callee, arguments, results,
             ),
             MInst::TakeData(d, n) => put_take(asm, alloc, self.at(*d), *n, self.function.end),
-            MInst::CopyBytes(a, b, n) => put_copy(
-                asm,
-                alloc,
-                self.at(*a),
-                self.at(*b),
-                self.at(*n),
-            ),
-            MInst::FillBytes(a, b, n) => put_fill(
-                asm,
-                alloc,
-                self.at(*a),
-                self.at(*b),
-                self.at(*n),
-            ),
+            MInst::CopyBytes(a, b, n) => self.put_copy(asm, alloc, *a, *b, *n),
+            MInst::FillBytes(a, b, n) => self.put_fill(asm, alloc, *a, *b, *n),
             MInst::Return(results) => self.put_return(asm, alloc, results.as_slice()),
             MInst::Trap => put_instr(asm, alloc, Instr::Ebreak),
             MInst::Phi(_, _) | MInst::Branch(_, _, _, _, _) | MInst::Jump(_) => Ok(()),
