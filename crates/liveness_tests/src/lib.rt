@@ -1,4 +1,4 @@
-//! Tests of spans and places, over functions that were worked out by hand.
+//! Tests of spans, places and words, over functions that were worked out by hand.
 #![tactic(auto)]
 
 #[cfg(test)]

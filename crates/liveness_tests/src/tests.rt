@@ -1,7 +1,10 @@
 // Instruction number i reads at point 2i and writes at point 2i + 1.
-ghost use Rattle.std.specs.Prelude.{◌≡◌, IfOk};
+ghost use Rattle.std.specs.Prelude.{◌≡◌, ◌^◌, ◌<◌, ◌≤◌, IfOk, length};
+ghost use Rattle.walks.specs.Face.{frame_of};
+ghost use Rattle.mir.specs.WellFormed.{IsWellFormed, HasNoPhi};
 ghost use Rattle.liveness_tests.specs.Samples.{doubling, summing, choosing, unwritten};
 
+use frame_out::layout::lay_out;
 use liveness::intervals::intervals;
 use mir::code::{MFunction, MInst};
 use mir::places::{Intervals, Place};
@@ -133,6 +136,26 @@ fn unwritten_spans(alloc: Global) -> Result<Intervals, NoMemory> {
     }
 }
 
+// The words of a function, with the spans and places of its registers.
+fn words_of(alloc: Global, function: &MFunction) -> Result<Items<u32>, PlaceRefusal>
+    requires formed { IsWellFormed function.now }
+    requires without_phi { HasNoPhi function.now }
+    requires small { frame_of function.now.values ≤ 2 ^ 20 }
+    requires symbol { function.now.symbol < 1024 }
+    requires few { length function.now.blocks < 2 ^ 32 }
+{
+    let found = intervals(alloc, function)?;
+    let places = place(alloc, &found, 4 * function.values + 4)?;
+    Ok(lay_out(alloc, function, &places)?)
+}
+
+fn doubling_words(alloc: Global) -> Result<Items<u32>, PlaceRefusal> {
+    match doubling_function(alloc) {
+        Ok(function) => words_of(alloc, &function),
+        Err(_) => Err(PlaceRefusal::NoMemory),
+    }
+}
+
 #[test]
 fn one_behind_the_other(rt: HostRuntime) -> Result<(), PlaceRefusal> {
     let alloc = rt.alloc();
@@ -189,5 +212,21 @@ fn a_register_that_nothing_writes(rt: HostRuntime) -> Result<(), PlaceRefusal> {
     let alloc = rt.alloc();
     let found = unwritten_spans(alloc)?;
     assert!(rt; found.spans.as_slice() == [Some((1, 2)), Some((0, 0))].as_slice());
+    Ok(())
+}
+
+// The count, the guard, the frame, ra and s0; the parameter, the sum and the result; s0, ra and sp again, and the return.
+#[test]
+fn all_the_way_to_words(rt: HostRuntime) -> Result<(), PlaceRefusal> {
+    let words = doubling_words(rt.alloc())?;
+    assert!(rt;
+        words.as_slice()
+            == [
+                0x00100293, 0x00000313, 0x00000073, 0xf4010293, 0x400003b7, 0x0072f663, 0x00200293,
+                0x00000073, 0xf4010113, 0x0a113c23, 0x0a813823, 0x00050413, 0x00840433, 0x00040513,
+                0x0b013403, 0x0b813083, 0x0c010113, 0x00008067,
+            ]
+            .as_slice()
+    );
     Ok(())
 }
