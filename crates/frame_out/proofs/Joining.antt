@@ -1,9 +1,8 @@
 -- Pieces of code, put one behind another.
-use Rattle.std.proofs.Common.{◌≡◌, ◌≢◌, refl, sym, ap, ap₂, subst, ℤ, ◌∙◌, ℕ, zero, suc, ◌+◌, ◌-◌, ◌*◌, ◌^◌, ◌<◌, ◌≤◌, ◌⊎◌, inl, inr, List, [], ◌∷◌, ◌++◌, length, get_or, Option, Some, None, Bool, true, false, cond, arith, append_assoc}
+use Rattle.std.proofs.Common.{◌≡◌, refl, sym, ap, ap₂, ℤ, ◌∙◌, ℕ, zero, suc, ◌+◌, ◌-◌, ◌^◌, ◌<◌, ◌≤◌, ◌⊎◌, inl, inr, List, [], ◌∷◌, ◌++◌, length, get_or, Option, Some, None, Bool, true, false, cond, arith, append_assoc}
 use Rattle.std.specs.Prelude.{drop, replicate, slice_get, slice_set, slice_index_or, ◌==◌, nat_le}
 use Rattle.std.proofs.Math.Seq.{drop-cons}
 use Rattle.std.proofs.lemmas.List.{append-nil}
-use Rattle.std.proofs.lemmas.Bool.{cases_lt}
 use Rattle.rv_core.specs.declared.instr.Instr.{Instr}
 use Rattle.rv_core.specs.declared.reg.Reg.{Reg}
 use Rattle.rv_core.specs.declared.reg.Reg.TheVariants.{T0, T1, S11}
@@ -14,7 +13,6 @@ use Rattle.rv_core.specs.declared.instr.RegOp.TheVariants.{Sub}
 use Rattle.rv_core.specs.declared.instr.Instr.TheVariants as rv
 use Rattle.rv_core.specs.declared.instr.BranchOp.{BranchOp}
 use Rattle.rv_asm.specs.Code.{Code}
-use Rattle.walks.specs.Face.{frame_of}
 use Rattle.mir.specs.declared.code.MInst.{MInst}
 use Rattle.mir.specs.declared.code.MInst.TheVariants.{Param, Op, Imm, Const, Move, Load, Store, Phi, Call, TakeData, CopyBytes, FillBytes, Branch, Jump, Return, Trap}
 use Rattle.mir.specs.declared.code.MFunction.{MFunction}
@@ -27,13 +25,13 @@ use Rattle.code_pieces.specs.Bytes.{taken_bytes}
 use Rattle.code_pieces.specs.Items.{Item, Plain, Bind, Goto, Test, plain}
 use Rattle.code_pieces.specs.Assembly.{put, labelled, bind_all}
 use Rattle.code_pieces.proofs.Rising.{Rise, rise-ends, rise-plain}
-use Rattle.frame_code.specs.Frame.{uses, used, used_from}
+use Rattle.frame_code.specs.Frame.{uses, used_from}
 use Rattle.frame_code.specs.Code.{held_in, fetch, keep, imm_code, store_code, load_place, save_code, restore_code, give_back, taken_by, taken_in, arguments_code, goto_items, inst_code, inst_items, insts_items, blocks_items, entry_code, function_items}
 use Rattle.frame_code.specs.Assembly.{code_of}
 use Rattle.frame_code.proofs.Labelled.{rise-insts}
 use Rattle.frame_code.proofs.Taking.{taken-is}
 use Rattle.code_emit.specs.Written.{put_code}
-use Rattle.code_emit.proofs.Put.{put-put, put-none, then-put, code_code, code_none, code_is, code_put, more_code}
+use Rattle.code_emit.proofs.Put.{put-none, then-put, code_code, code_none, code_is, code_put, more_code}
 use Rattle.frame_out.specs.Ready.{goes_items, AreFree}
 use Rattle.frame_out.specs.Saving.{save_one, restore_one}
 

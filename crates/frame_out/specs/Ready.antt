@@ -3,7 +3,7 @@ use Rattle.std.specs.Prelude.{◌≡◌, ℕ, ◌+◌, ◌*◌, ◌^◌, ◌<◌
 use Rattle.mir.specs.declared.code.MInst.{MInst}
 use Rattle.mir.specs.declared.code.MInst.TheVariants.{Branch, Jump}
 use Rattle.mir.specs.declared.places.Place.{Place}
-use Rattle.mir.specs.declared.places.Place.TheVariants.{Saved, Slot}
+use Rattle.mir.specs.declared.places.Place.TheVariants.{Slot}
 use Rattle.mir.specs.declared.places.Places.{Places}
 use Rattle.mir.specs.declared.code.MFunction.{MFunction}
 use Rattle.mir.specs.Code.{reads, writes}

@@ -1,4 +1,4 @@
-use Rattle.std.proofs.Common.{◌≡◌, ap, ap₂, sym, subst, ◌∙◌, length, Some}
+use Rattle.std.proofs.Common.{◌≡◌, ap₂, sym, subst, ◌∙◌, Some}
 use Rattle.code_pieces.specs.Assembly.{put}
 use Rattle.code_emit.specs.Written.{put_code}
 use Rattle.mir.specs.declared.code.MFunction.{MFunction}

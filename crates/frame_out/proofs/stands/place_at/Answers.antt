@@ -1,4 +1,4 @@
-use Rattle.std.proofs.Common.{sym, ap, ◌∙◌}
+use Rattle.std.proofs.Common.{ap}
 use Rattle.std.specs.Option.{option_copied}
 use Rattle.frame_out.proofs.Readiness.{place_none}
 use Rattle.frame_out.proofs.stands.place_at.Goals as goal

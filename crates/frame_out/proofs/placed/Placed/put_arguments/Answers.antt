@@ -1,4 +1,4 @@
-use Rattle.std.proofs.Common.{ap, ap₂, ◌∙◌, ◌+◌, arith, get_or}
+use Rattle.std.proofs.Common.{ap₂, ◌∙◌, arith}
 use Rattle.code_emit.specs.Written.{put_code}
 use Rattle.frame_code.specs.Code.{load_place}
 use Rattle.frame_out.proofs.Joining.{args_more, args_done}

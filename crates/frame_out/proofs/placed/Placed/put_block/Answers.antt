@@ -1,4 +1,4 @@
-use Rattle.std.proofs.Common.{◌≡◌, ap, sym, subst, ◌∙◌, length, ◌∷◌, List, get_or}
+use Rattle.std.proofs.Common.{◌≡◌, ap, subst, ◌∙◌, List, get_or}
 use Rattle.std.specs.Prelude.{slice_get, Some}
 use Rattle.mir.specs.declared.code.MInst.{MInst}
 use Rattle.code_pieces.specs.Assembly.{put}
