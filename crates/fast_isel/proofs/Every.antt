@@ -1,5 +1,5 @@
 -- Each function of a checked module is taken.
-use Rattle.std.proofs.Common.{◌≡◌, refl, sym, ap, subst, ◌∙◌, ℕ, zero, suc, ◌^◌, ◌<◌, ◌≤◌, List, [], ◌∷◌, ◌++◌, length, map, ◌⊎◌, inl, inr, Option, Some, None, Bool, true, false, cond, arith}
+use Rattle.std.proofs.Common.{◌≡◌, refl, sym, ap, subst, ℕ, zero, suc, ◌^◌, ◌≤◌, List, [], ◌∷◌, length, ◌⊎◌, inl, inr, Option, Some, None, Bool, true, false, arith}
 use Rattle.std.specs.Prelude.{slice_get, ◌&&◌, ◌==◌, nat_lt, nat_le}
 use Rattle.std.proofs.Math.Pow.{pow_mono}
 use Rattle.std.proofs.lemmas.Bool.{lt-ltb, le-leb, eq-eqb, and_parts}
@@ -18,15 +18,14 @@ use Rattle.ir_core.specs.declared.code.Block.{Block}
 use Rattle.ir_core.specs.declared.program.Function.{Function}
 use Rattle.ir_core.specs.declared.program.What.TheVariants.{Nodes}
 use Rattle.ir_core.specs.Units.{is_result, instructions, types_of_arguments, values as value_count}
-use Rattle.ir_flow.specs.Limits.{op_limit, type_limit, above, nodes}
-use Rattle.ir_flow.specs.First.{or_then}
+use Rattle.ir_flow.specs.Limits.{op_limit, above, nodes}
 use Rattle.ir_meaning.specs.Operators.{width}
-use Rattle.ir_meaning.specs.Step.{Program, function_at, insts_at, insts_of, moves_bytes}
-use Rattle.ir_meaning.specs.Typed.{types, IsTyped, IsTypedFunction, IsOp, IsCallee, IsBuiltIn, IsInteger, IsValueType, IsResultType, IsStored, IsReturned, IsOperand, AreArguments, AreIndices, ArePairs, AreCases}
+use Rattle.ir_meaning.specs.Step.{Program, function_at, insts_of, moves_bytes}
+use Rattle.ir_meaning.specs.Typed.{types, IsTyped, IsOp, IsCallee, IsBuiltIn, IsInteger, IsValueType, IsResultType, IsReturned, IsOperand, AreArguments, AreIndices, ArePairs, AreCases}
 use Rattle.ir_verify.specs.Types.{mistyped, is_typed, gives_type, all_fit_places, is_part, is_ptr}
 use Rattle.ir_flow.specs.Code.{places}
 use Rattle.ir_verify.specs.Small.{IsSmall, HasFewBlocks}
-use Rattle.ir_verify.specs.Verdict.{refusal, IsChecked}
+use Rattle.ir_verify.specs.Verdict.{refusal}
 use Rattle.ir_verify.proofs.Lists.{Every, every_at, every_left, every_right, none_refused, or_none_left, is_below}
 use Rattle.ir_verify.proofs.Usable.{within}
 use Rattle.ir_verify.proofs.Rows.{typed as well_typed, small, few_blocks}
@@ -36,7 +35,6 @@ use Rattle.quick_code.specs.Parts.{is_path}
 use Rattle.quick_code.proofs.Numbers.{operand-inside, width-small, gives-some}
 use Rattle.quick_code.proofs.Typing.{integer-value, cast-from, cast-to}
 use Rattle.quick_code.proofs.DataMemory.{stored-value}
-use Rattle.fast_isel.specs.Written.{AreLimited}
 use Rattle.fast_isel_emit.specs.Operands.{is_width, are_widths, is_given, is_operand, are_arguments, is_answer, is_integer, is_index, is_index_at, are_indices, is_built_in}
 use Rattle.fast_isel.specs.Taken.{are_edge_operands, are_cases, is_form, are_forms, are_blocks, is_taken, are_taken, IsTaken}
 use Rattle.fast_isel.proofs.Limits.{limited-at}

@@ -21,7 +21,7 @@ use Rattle.ir_meaning.specs.Typed.{IsInteger, IsOperand, AreIndices}
 use Rattle.ir_verify.specs.Types.{leads_on, leads_into, is_part, all_int}
 use Rattle.ir_verify.proofs.Lists.{is_below}
 use Rattle.quick_code.proofs.Narrow.{positive, negative}
-use Rattle.quick_code.specs.Parts.{literal, is_index, of_field, is_step, are_steps, is_path}
+use Rattle.quick_code.specs.Parts.{is_index, of_field, is_step, are_steps, is_path}
 
 width-least : (ty : Ty) → IsInteger ty → 1 ≤ width ty
 width-least Void is = absurd is

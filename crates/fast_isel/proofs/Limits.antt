@@ -1,9 +1,9 @@
 -- The types that instructions of a checked module name keep their limits, and sizes of their parts are small.
-use Rattle.std.proofs.Common.{◌≡◌, refl, sym, ap, subst, ◌∙◌, ℕ, zero, suc, ◌+◌, ◌*◌, ◌^◌, ◌<◌, ◌≤◌, List, [], ◌∷◌, ◌++◌, length, get_or, Option, Some, None, arith}
-use Rattle.std.specs.Prelude.{slice_get, sum_by}
+use Rattle.std.proofs.Common.{◌≡◌, refl, sym, subst, ℕ, zero, suc, ◌^◌, ◌<◌, List, [], ◌∷◌, ◌++◌, length, get_or, Option, Some, None, arith}
+use Rattle.std.specs.Prelude.{slice_get}
 use Rattle.ir_core.specs.declared.types.Ty.{Ty}
 use Rattle.ir_core.specs.declared.types.MemTy.{MemTy, roll-MemTy, out-MemTy, roll-out-MemTy}
-use Rattle.ir_core.specs.declared.types.MemTy.TheVariants.{rolls-Array, rolls-Struct, Struct}
+use Rattle.ir_core.specs.declared.types.MemTy.TheVariants.{rolls-Array, rolls-Struct}
 use Rattle.ir_core.specs.declared.types.MemTy.TheOpen as layer
 use Rattle.ir_core.specs.declared.code.Operand.{Operand}
 use Rattle.ir_core.specs.declared.code.Operand.TheVariants.{Value as Local, Num, Null, Place, Poison}
@@ -12,10 +12,9 @@ use Rattle.ir_core.specs.declared.code.Block.{Block}
 use Rattle.ir_core.specs.declared.program.Function.{Function}
 use Rattle.ir_core.specs.declared.program.Module.{Module}
 use Rattle.ir_core.specs.Layout.{size, HasSizesWithin}
-use Rattle.ir_core.specs.Units.{units, instructions}
+use Rattle.ir_core.specs.Units.{instructions}
 use Rattle.ir_core.proofs.Structs.{struct-fields}
-use Rattle.ir_flow.specs.First.{or_then}
-use Rattle.ir_flow.specs.Limits.{op_limit, insts_limit, function_limit, functions_limit, globals_limit, limit_passed}
+use Rattle.ir_flow.specs.Limits.{op_limit, insts_limit, function_limit, functions_limit, globals_limit}
 use Rattle.ir_meaning.specs.Step.{insts_at, insts_of}
 use Rattle.ir_verify.specs.Verdict.{refusal}
 use Rattle.ir_verify.proofs.Lists.{or_none_left, or_none_right}

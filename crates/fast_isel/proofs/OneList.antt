@@ -2,7 +2,7 @@
 use Rattle.std.proofs.Common.{◌≡◌, ℕ, List, Option, Some, None}
 use Rattle.ir_core.specs.declared.program.Function.{Function}
 use Rattle.ir_core.specs.declared.program.Global.{Global}
-use Rattle.ir_meaning.specs.Step.{Program, function_at}
+use Rattle.ir_meaning.specs.Step.{function_at}
 use Rattle.rv_asm.proofs.Least.{one-assembly}
 use Rattle.quick_code.specs.Assembly.{code_of}
 use Rattle.fast_isel.specs.Written.{AreWordsOf}

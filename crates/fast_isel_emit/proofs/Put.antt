@@ -1,31 +1,20 @@
 -- Code behind code.
-use Rattle.std.proofs.Common.{◌≡◌, ◌≢◌, refl, sym, ap, ap₂, ◌∙◌, ℕ, zero, suc, ◌+◌, ◌-◌, ◌<◌, ◌≤◌, List, [], ◌∷◌, ◌++◌, length, get_or, map, Option, Some, None, cond, arith, append_assoc}
-use Rattle.std.specs.Prelude.{drop, pos, slice_set, replicate}
+use Rattle.std.proofs.Common.{◌≡◌, ◌≢◌, refl, sym, ap, ap₂, ◌∙◌, ℕ, suc, ◌+◌, ◌<◌, ◌≤◌, List, [], ◌∷◌, ◌++◌, length, get_or, map, arith, append_assoc}
+use Rattle.std.specs.Prelude.{drop}
 use Rattle.std.proofs.Math.Seq.{drop-cons}
-use Rattle.std.proofs.lemmas.List.{length-append, append-nil}
+use Rattle.std.proofs.lemmas.List.{append-nil}
 use Rattle.ir_core.specs.declared.types.Ty.{Ty}
 use Rattle.ir_core.specs.declared.code.Operand.{Operand}
-use Rattle.rv_core.specs.Instr.{IsValid, AreValid}
 use Rattle.ir_core.specs.declared.code.BuiltIn.{BuiltIn}
 use Rattle.ir_core.specs.declared.code.BuiltIn.TheVariants.{MemCpy, MemMove, MemSet, SMax, SMin, UMax, UMin, Abs}
 use Rattle.rv_core.specs.declared.instr.Instr.{Instr}
-use Rattle.rv_asm.specs.declared.item.Item.{Item as Assembled}
-use Rattle.rv_asm.specs.declared.item.Item.TheVariants as asm
 use Rattle.rv_asm.specs.Code.{Code}
-use Rattle.rv_asm.specs.Constant as constant
-use Rattle.rv_core.specs.declared.reg.Reg.{Reg}
-use Rattle.rv_core.specs.declared.reg.Reg.TheVariants.{X0, Ra, T0, T1, T2}
-use Rattle.rv_core.specs.declared.instr.BranchOp.TheVariants.{Bgeu}
-use Rattle.rv_core.specs.declared.instr.ImmOp.TheVariants.{Addi, Slli}
-use Rattle.rv_core.specs.declared.instr.Instr.TheVariants.{Lui, Branch, Imm, Ecall}
 use Rattle.ir_meaning.specs.Operators.{width}
 use Rattle.ir_core.specs.declared.program.Global.{Global}
-use Rattle.code_pieces.specs.Code.{argument_reg, store_value, store_at, lowered_code, lower_sp, prologue, const_code, word_code, is_word, high_part, add_low}
+use Rattle.code_pieces.specs.Code.{argument_reg, store_value}
 use Rattle.quick_code.specs.Narrow.{zero_extended}
 use Rattle.quick_code.specs.Operations.{value_code, values_code, built_in_operands}
-use Rattle.code_pieces.specs.Items.{Item, Plain, Bind, Goto, Test, plain}
 use Rattle.quick_code.specs.Blocks.{arguments_code}
-use Rattle.code_pieces.specs.Assembly.{assembled, bind_all, put, labelled}
 use Rattle.code_emit.specs.Written.{put_code}
 use Rattle.code_emit.proofs.Put.{code_code, code_none, more_code, drop-past, then-code}
 

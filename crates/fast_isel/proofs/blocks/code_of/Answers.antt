@@ -1,4 +1,4 @@
-use Rattle.std.proofs.Common.{ap, ◌∙◌, ◌+◌, ◌*◌, length}
+use Rattle.std.proofs.Common.{ap, ◌∙◌, ◌+◌, ◌*◌}
 use Rattle.code_pieces.specs.Code.{prologue}
 use Rattle.code_pieces.specs.Bytes.{save_code}
 use Rattle.quick_code.specs.Data.{takes_data}

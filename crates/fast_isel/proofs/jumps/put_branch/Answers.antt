@@ -1,4 +1,4 @@
-use Rattle.std.proofs.Common.{ap, sym, ◌∙◌, ◌∷◌, [], subst, ◌≡◌, ℕ, Some, None}
+use Rattle.std.proofs.Common.{ap, ◌∙◌, ◌∷◌, []}
 use Rattle.std.specs.Prelude.{slice_get}
 use Rattle.rv_core.specs.declared.reg.Reg.TheVariants.{X0, T0}
 use Rattle.code_pieces.specs.Assembly.{put}

@@ -1,4 +1,4 @@
-use Rattle.std.proofs.Common.{◌+◌, arith}
+use Rattle.std.proofs.Common.{arith}
 use Rattle.fast_isel.proofs.Counts.{edges_left, edges_none}
 use Rattle.fast_isel.proofs.starts.edges_in.Goals as goal
 

@@ -1,4 +1,4 @@
-use Rattle.std.proofs.Common.{◌∙◌, arith}
+use Rattle.std.proofs.Common.{arith}
 use Rattle.fast_isel.proofs.Counts.{label_most}
 use Rattle.fast_isel.proofs.starts.label_in.Goals as goal
 

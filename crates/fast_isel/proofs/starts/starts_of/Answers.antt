@@ -1,4 +1,4 @@
-use Rattle.std.proofs.Common.{◌+◌, ap, ◌∙◌, arith, length, ℕ, List}
+use Rattle.std.proofs.Common.{◌+◌, ap, ◌∙◌, arith, length, List}
 use Rattle.std.specs.Prelude.{slice_get}
 use Rattle.std.proofs.lemmas.List.{length_push}
 use Rattle.ir_core.specs.Units.{results}
