@@ -1,5 +1,5 @@
 // The code that enters and leaves: the count of the entry, the frame, ra and the return.
-ghost use Rattle.std.specs.Prelude.{◌≡◌, ◌+◌, ◌*◌, ◌<◌, ◌≤◌, ◌^◌, [], ◌∷◌, ◌++◌, pos, OnOk};
+ghost use Rattle.std.specs.Prelude.{◌≡◌, ◌+◌, ◌<◌, ◌≤◌, ◌^◌, [], ◌∷◌, ◌++◌, pos, OnOk};
 ghost use Rattle.rv_core.specs.Instr.{IsValid};
 ghost use Rattle.rv_core.specs.declared.instr.Instr.TheVariants.{Imm, Op as RegisterOp, Ecall};
 ghost use Rattle.code_pieces.specs.Code.{lowered_code, lower_sp, prologue, const_code, raised_code, leave_code};

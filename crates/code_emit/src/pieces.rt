@@ -1,5 +1,5 @@
 // Plain instructions behind the code of an assembler.
-ghost use Rattle.std.specs.Prelude.{◌≡◌, ◌+◌, ◌*◌, ◌<◌, ◌≤◌, ◌^◌, [], ◌∷◌, ◌++◌, length, map, pos, OnOk, true};
+ghost use Rattle.std.specs.Prelude.{◌≡◌, ◌<◌, ◌^◌, [], ◌∷◌, OnOk};
 ghost use Rattle.rv_core.specs.Instr.{IsValid, AreValid, Fits12};
 ghost use Rattle.rv_play.specs.Ending.{upper, lower};
 ghost use Rattle.code_pieces.specs.Code.{argument_reg, load_at, store_at, const_code, call_code};

@@ -1,5 +1,5 @@
 // The code of blocks and functions, as items of an assembler.
-ghost use Rattle.std.specs.Prelude.{◌≡◌, ◌+◌, ◌*◌, ◌<◌, ◌≤◌, [], ◌∷◌, ◌++◌, Some, None, length, drop, slice_get, OnOk, IfOk, true};
+ghost use Rattle.std.specs.Prelude.{◌≡◌, ◌+◌, ◌<◌, ◌≤◌, Some, None, length, drop, slice_get, OnOk, IfOk, true};
 ghost use Rattle.ir_core.specs.Units.{values as value_count, frame};
 ghost use Rattle.ir_meaning.specs.Step.{insts_at, number_at};
 ghost use Rattle.quick_code.specs.Blocks.{both_items, op_items, insts_items, block_items, blocks_items, edges_of, edges_in, edge_label, block_label, label_count};
@@ -7,7 +7,6 @@ ghost use Rattle.quick_code.specs.Data.{takes_data as takes_data_of};
 ghost use Rattle.code_pieces.specs.Assembly.{put};
 ghost use Rattle.quick_code.specs.Assembly.{code_of as code_of_function};
 ghost use Rattle.ir_flow.specs.Limits.{op_limit};
-ghost use Rattle.code_emit.specs.Written.{put_code};
 ghost use Rattle.fast_isel.specs.Written.{given_by, AreLimited, AreStarts, AreFree};
 ghost use Rattle.fast_isel_emit.specs.Operands.{is_operand};
 ghost use Rattle.fast_isel.specs.Taken.{is_form, is_taken};

@@ -1,8 +1,8 @@
 // The edges between blocks: next values of phis, jumps and labels.
-ghost use Rattle.std.specs.Prelude.{◌≡◌, ◌+◌, ◌*◌, ◌<◌, ◌≤◌, ◌^◌, length, Some, None, slice_get, OnOk, IfOk, true};
+ghost use Rattle.std.specs.Prelude.{◌≡◌, ◌+◌, ◌<◌, ◌≤◌, length, Some, None, slice_get, OnOk, IfOk, true};
 ghost use Rattle.ir_core.specs.Units.{values as value_count};
 ghost use Rattle.ir_meaning.specs.Step.{insts_at, number_at, on_edge, phis};
-ghost use Rattle.quick_code.specs.Blocks.{edge_code, edge_items, last_edge_items, branch_items, phis_code, block_label, edge_label};
+ghost use Rattle.quick_code.specs.Blocks.{edge_code, edge_items, last_edge_items, branch_items, phis_code, edge_label};
 ghost use Rattle.code_pieces.specs.Assembly.{put};
 ghost use Rattle.code_emit.specs.Written.{put_code};
 ghost use Rattle.fast_isel.specs.Written.{AreStarts};

@@ -1,8 +1,8 @@
 // Allocas: fresh bytes behind the data top, which stands in s11.
-ghost use Rattle.std.specs.Prelude.{◌≡◌, ◌-◌, ◌*◌, ◌≤◌, ◌<◌, ◌^◌, [], ◌∷◌, ◌++◌, pos, OnOk};
+ghost use Rattle.std.specs.Prelude.{◌≡◌, ◌*◌, ◌≤◌, ◌^◌, [], ◌∷◌, ◌++◌, pos, OnOk};
 ghost use Rattle.ir_core.specs.Layout.{size, aligned};
-ghost use Rattle.rv_core.specs.declared.reg.Reg.TheVariants.{X0, T0, T1, S11};
-ghost use Rattle.code_pieces.specs.Code.{const_code, store_value};
+ghost use Rattle.rv_core.specs.declared.reg.Reg.TheVariants.{T0, S11};
+ghost use Rattle.code_pieces.specs.Code.{store_value};
 ghost use Rattle.code_pieces.specs.Bytes.{save_code, restore_code, taken_bytes as taken_bytes_of};
 ghost use Rattle.quick_code.specs.Data.{is_alloca as is_alloca_op, insts_take as insts_take_data, blocks_take as blocks_take_data, takes_data as takes_data_of, alloca_code};
 ghost use Rattle.code_emit.specs.Written.{put_code};

@@ -1,5 +1,5 @@
 // The built-ins that move bytes of data memory, byte by byte in loops.
-ghost use Rattle.std.specs.Prelude.{◌≡◌, ◌≤◌, [], ◌++◌, length, OnOk, true};
+ghost use Rattle.std.specs.Prelude.{◌≡◌, ◌≤◌, OnOk, true};
 ghost use Rattle.ir_meaning.specs.Step.{moves_bytes as moves_bytes_of};
 ghost use Rattle.quick_code.specs.Data.{moving_code, moved_code};
 ghost use Rattle.code_emit.specs.Written.{put_code};

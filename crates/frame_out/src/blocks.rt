@@ -1,5 +1,5 @@
 // The code of blocks, each behind its label.
-ghost use Rattle.std.specs.Prelude.{◌≡◌, ℕ, ◌+◌, ◌^◌, ◌<◌, ◌≤◌, ◌∷◌, Some, None, length, slice_get, OnOk};
+ghost use Rattle.std.specs.Prelude.{◌≡◌, ℕ, ◌+◌, ◌^◌, ◌<◌, ◌∷◌, Some, None, length, slice_get, OnOk};
 ghost use Rattle.mir.specs.declared.code.MInst.{MInst as Inst};
 ghost use Rattle.mir.specs.Code.{inst_at, block_of};
 ghost use Rattle.code_pieces.specs.Items.{Bind};

@@ -1,5 +1,5 @@
 // The code of instructions.
-ghost use Rattle.std.specs.Prelude.{◌≡◌, ◌+◌, ◌*◌, ◌^◌, ◌<◌, ◌≤◌, ◌==◌, [], ◌∷◌, ◌++◌, if◌then◌else◌, length, OnOk};
+ghost use Rattle.std.specs.Prelude.{◌≡◌, ◌+◌, ◌^◌, ◌<◌, ◌≤◌, ◌==◌, [], ◌∷◌, ◌++◌, if◌then◌else◌, length, OnOk};
 ghost use Rattle.mir.specs.Places.{place_of};
 ghost use Rattle.mir.specs.declared.code.MInst.TheVariants.{Return as Returns};
 ghost use Rattle.code_pieces.specs.Code.{call_code};

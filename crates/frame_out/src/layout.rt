@@ -1,5 +1,5 @@
 // The words of a function of target code.
-ghost use Rattle.std.specs.Prelude.{◌≡◌, ℕ, ◌+◌, ◌*◌, ◌^◌, ◌<◌, ◌≤◌, IfOk, Some, length};
+ghost use Rattle.std.specs.Prelude.{◌≡◌, ℕ, ◌^◌, ◌<◌, ◌≤◌, IfOk, Some, length};
 ghost use Rattle.walks.specs.Face.{frame_of};
 ghost use Rattle.mir.specs.declared.code.MInst.{MInst as Inst};
 ghost use Rattle.mir.specs.declared.places.Intervals.{Intervals};
@@ -7,7 +7,6 @@ ghost use Rattle.mir.specs.Code.{inst_at};
 ghost use Rattle.mir.specs.WellFormed.{IsWellFormed, HasNoPhi};
 ghost use Rattle.mir.specs.Live.{Covers};
 ghost use Rattle.mir.specs.Places.{Fits};
-ghost use Rattle.code_pieces.specs.Assembly.{labelled};
 ghost use Rattle.frame_code.specs.Frame.{slots_of};
 ghost use Rattle.frame_code.specs.Assembly.{code_of as code_of_function, IsLaidOut};
 ghost use Rattle.frame_out.specs.Ready.{IsReady};

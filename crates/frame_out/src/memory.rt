@@ -1,5 +1,5 @@
 // Data memory that is taken and given back.
-ghost use Rattle.std.specs.Prelude.{◌≡◌, ◌+◌, ◌*◌, ◌^◌, ◌<◌, ◌≤◌, [], ◌∷◌, ◌++◌, pos, OnOk};
+ghost use Rattle.std.specs.Prelude.{◌≡◌, ◌+◌, ◌^◌, ◌≤◌, [], ◌∷◌, ◌++◌, pos, OnOk};
 ghost use Rattle.rv_core.specs.declared.reg.Reg.TheVariants.{X0, T0, T1, S11};
 ghost use Rattle.rv_core.specs.declared.instr.BranchOp.TheVariants.{Bgeu};
 ghost use Rattle.code_pieces.specs.Code.{const_code};

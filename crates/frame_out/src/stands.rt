@@ -1,5 +1,5 @@
 // Where registers of target code stand, and how they are brought into registers of the machine and back.
-ghost use Rattle.std.specs.Prelude.{◌≡◌, ◌+◌, ◌*◌, ◌^◌, ◌<◌, ◌≤◌, ◌∷◌, Some, OnOk};
+ghost use Rattle.std.specs.Prelude.{◌≡◌, ◌+◌, ◌*◌, ◌^◌, ◌≤◌, ◌∷◌, Some, OnOk};
 ghost use Rattle.mir.specs.Places.{place_of};
 ghost use Rattle.rv_core.specs.Instr.{IsImmediate, IsValid, Fits12};
 ghost use Rattle.rv_core.specs.declared.reg.Reg.TheVariants.{T0};
