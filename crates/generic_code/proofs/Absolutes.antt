@@ -1,15 +1,15 @@
 -- The number without its sign is what its negation, a comparison and a choice give.
-use Rattle.std.proofs.Common.{◌≡◌, refl, sym, ap, subst, ◌∙◌, ℕ, zero, suc, ◌+◌, ◌-◌, ◌*◌, ◌<◌, ◌≤◌, ◌^◌, ◌%◌, ◌⊎◌, inl, inr, Bool, true, false, List, [], ◌∷◌, Some, None, arith}
-use Rattle.std.specs.Prelude.{if◌then◌else◌, ◌==◌, ◌&&◌, nat_lt, not, int_lt, ℤ, pos, negsuc, ◌-ℤ◌}
+use Rattle.std.proofs.Common.{◌≡◌, refl, sym, ap, subst, ◌∙◌, ℕ, ◌+◌, ◌-◌, ◌<◌, ◌≤◌, ◌^◌, ◌⊎◌, inl, inr, Bool, true, false, List, [], ◌∷◌, Some, None, arith}
+use Rattle.std.specs.Prelude.{if◌then◌else◌, ◌==◌, ◌&&◌, not, int_lt, ℤ, pos, negsuc, ◌-ℤ◌}
 use Rattle.std.proofs.Math.Nat.{mod-eq_of_lt}
-use Rattle.std.proofs.lemmas.Nat.{pow_pos, pow-add}
+use Rattle.std.proofs.lemmas.Nat.{pow_pos}
 use Rattle.std.proofs.lemmas.Int.{ints}
 use Rattle.std.proofs.lemmas.Bool.{cases_lt, lt-ltb, le-ltb}
 use Rattle.ir_core.specs.declared.code.Pred.TheVariants.{Slt}
 use Rattle.ir_core.specs.declared.code.BuiltIn.TheVariants.{Abs}
 use Rattle.rj_num.specs.Width.{signed, is_negative, modulo}
-use Rattle.ir_meaning.specs.Value.{Value, poison_if}
-use Rattle.ir_meaning.specs.Operators.{select, compare, sub, holds, bit, absolute}
+use Rattle.ir_meaning.specs.Value.{Value}
+use Rattle.ir_meaning.specs.Operators.{compare, sub, bit, absolute}
 use Rattle.ir_meaning.specs.Ranges.{FitsWidth}
 use Rattle.ir_meaning.specs.Step.{built_in}
 use Rattle.gmir.specs.declared.code.GOp.TheVariants as g

@@ -3,13 +3,12 @@ use Rattle.std.proofs.Common.{◌≡◌, refl, sym, ap, subst, ◌∙◌, ℕ, z
 use Rattle.std.specs.Prelude.{slice_get, slice_index_or, ◌==◌, ◌&&◌, nat_lt, not, pos, ◌-ℤ◌, if◌then◌else◌}
 use Rattle.std.specs.Int.{w64, trailing_zeros}
 use Rattle.std.proofs.Math.Nat.{mod-eq_of_lt}
-use Rattle.std.proofs.lemmas.Nat.{mul-mod_second, pow_pos}
+use Rattle.std.proofs.lemmas.Nat.{mul-mod_second}
 use Rattle.std.proofs.lemmas.List.{append_assoc}
 use Rattle.std.proofs.lemmas.Bool.{and_parts, ltb-true, eqb-true, cases_lt, lt-ltb, le-ltb}
 use Rattle.ir_core.specs.Program.{Program}
 use Rattle.ir_core.specs.declared.types.Ty.{Ty}
 use Rattle.ir_core.specs.declared.types.Ty.TheVariants.{Int}
-use Rattle.ir_core.specs.declared.code.Operand.{Operand}
 use Rattle.ir_core.specs.declared.code.Operand.TheVariants.{Num}
 use Rattle.ir_core.specs.declared.code.BinOp.TheVariants.{Add, Mul, Shl}
 use Rattle.ir_core.specs.declared.code.CastOp.TheVariants as c
@@ -18,7 +17,6 @@ use Rattle.ir_meaning.specs.Value.{Value}
 use Rattle.ir_meaning.specs.Memory.{index_64}
 use Rattle.ir_meaning.specs.Operators as op
 use Rattle.ir_meaning.specs.Operators.{width, cast}
-use Rattle.ir_meaning.specs.Typed.{IsValueType}
 use Rattle.gmir.specs.declared.code.GType.{GType}
 use Rattle.gmir.specs.declared.code.GType.TheVariants.{S, P0}
 use Rattle.gmir.specs.declared.code.GOp.{GOp}
@@ -33,9 +31,9 @@ use Rattle.walks.specs.Bits.{constant, free}
 use Rattle.walks.specs.Refines.{RefinesBits}
 use Rattle.walks.specs.Simulation.{here}
 use Rattle.walks.specs.Functions.{bits_of}
-use Rattle.generic_code.specs.Literals.{Pool, plain, skip, type_of, loads, all_loaded, registers, behind_all, register_of}
-use Rattle.generic_code.specs.Parts.{Addend, Bytes, Times, Left, extended, exponent, scale_by, literal_64, first_register, with_literal, multiplied, then_left, left_of, sum_code, sum_types, sum_pool, offset, values_then, bytes_in, in_order}
-use Rattle.generic_code.proofs.Loads.{Stand, stand_front, stand_first, stand_tail, stand_rest, stand_behind, width_there, other_same, written_there, Known, known_next, known_keep, ValuesTyped, IsReady, Prepared, prepared, registers_behind, unchanged, behind_all_above, loads_run, by_most, Holds, AllReady}
+use Rattle.generic_code.specs.Literals.{Pool, plain, skip, loads, all_loaded, registers, behind_all, register_of}
+use Rattle.generic_code.specs.Parts.{Addend, Bytes, Times, Left, extended, exponent, scale_by, literal_64, with_literal, multiplied, then_left, left_of, sum_code, sum_types, sum_pool, offset, values_then, bytes_in, in_order}
+use Rattle.generic_code.proofs.Loads.{Stand, stand_front, stand_first, stand_tail, stand_behind, width_there, other_same, written_there, Known, known_next, ValuesTyped, Prepared, prepared, registers_behind, unchanged, behind_all_above, loads_run, by_most, Holds}
 use Rattle.generic_code.proofs.Results.{binary_row, cast_row, copy_row}
 use Rattle.generic_code.proofs.Computes.{resized}
 use Rattle.generic_code.proofs.Absolutes.{below_zero}

@@ -1,12 +1,11 @@
 -- An edge is followed by its code: the literals of its phis, a jump, and the phis all at once.
-use Rattle.std.proofs.Common.{◌≡◌, refl, sym, ap, subst, ◌∙◌, ℕ, zero, suc, ◌+◌, ◌*◌, ◌<◌, ◌≤◌, Bool, true, false, cond, List, [], ◌∷◌, ◌++◌, length, map, Option, Some, None, arith}
+use Rattle.std.proofs.Common.{◌≡◌, refl, sym, ap, subst, ◌∙◌, ℕ, suc, ◌+◌, ◌*◌, ◌≤◌, Bool, true, false, List, [], ◌∷◌, ◌++◌, length, map, Option, Some, None, arith}
 use Rattle.std.specs.Prelude.{slice_get, slice_index_or, sum_by, if◌then◌else◌, ◌==◌}
 use Rattle.std.proofs.lemmas.List.Sums.{sum_by-cons}
 use Rattle.gmir.specs.declared.code.GOp.TheVariants as g
 use Rattle.ir_core.specs.Program.{Program}
-use Rattle.ir_core.specs.Units.{units, has_result, is_result}
+use Rattle.ir_core.specs.Units.{has_result}
 use Rattle.ir_core.specs.declared.types.Ty.{Ty}
-use Rattle.ir_core.specs.declared.types.Ty.TheVariants.{Void, Int, Ptr}
 use Rattle.ir_core.specs.declared.code.Operand.{Operand}
 use Rattle.ir_core.specs.declared.code.Op.{Op}
 use Rattle.ir_core.specs.declared.code.Op.TheVariants.{Binary, Icmp, Cast, Select, Freeze, Phi, Alloca, Load, Store, Gep, Call, BuiltIn as CallBuiltIn, Ret, Br, CondBr, Switch, Unreachable}
@@ -20,9 +19,8 @@ use Rattle.ir_meaning.specs.Operators.{width}
 use Rattle.ir_meaning.specs.Step as ir
 use Rattle.ir_meaning.specs.Step.{function_at, insts_at, number_at, operand, phi_value, jump}
 use Rattle.ir_meaning.specs.Typed.{types, IsOperand, ArePairs, IsValueType, IsOp, IsTypedFunction}
-use Rattle.ir_meaning.proofs.Keeping.{ValuesFit, jump-fits}
+use Rattle.ir_meaning.proofs.Keeping.{jump-fits}
 use Rattle.ir_meaning.proofs.Numbering.{number-type}
-use Rattle.gmir.specs.declared.code.GType.{GType}
 use Rattle.gmir.specs.declared.code.GInst.{GInst}
 use Rattle.gmir.specs.declared.code.GFunction.{GFunction}
 use Rattle.gmir.specs.Play as play
@@ -30,15 +28,15 @@ use Rattle.gmir.specs.Play.{State, is_phi, weight, is_legal}
 use Rattle.walks.specs.Registers.{Registers, read}
 use Rattle.walks.specs.Walk.{Step, Goes}
 use Rattle.walks.specs.Refines.{RefinesBits}
-use Rattle.walks.specs.Simulation.{Chain, here, further}
-use Rattle.walks.specs.Functions.{bits_of, Point}
-use Rattle.generic_code.specs.Literals.{Pool, Literal, type_of, empty_pool, literal, scalar_width, find, write_code, load, loads, all_loaded, registers, behind, behind_all}
+use Rattle.walks.specs.Simulation.{Chain}
+use Rattle.walks.specs.Functions.{bits_of}
+use Rattle.generic_code.specs.Literals.{Pool, type_of, empty_pool, literal, scalar_width, find, write_code, load, loads, behind, behind_all}
 use Rattle.generic_code.specs.Edges.{Edge, phi_operand, heads, edge_operands, no_phis, edge_code, edge_types, edge_uses, jump_to}
 use Rattle.generic_code.specs.Whole.{edges_to, phi_register, phis_code}
-use Rattle.generic_code.proofs.Loads.{Stand, Known, known_empty, Holds, ValuesTyped, AreTyped, AllReady, IsReady, Prepared, prepared, registers_behind, loads_run, by_most, width_there, same_width, value_not_void}
+use Rattle.generic_code.proofs.Loads.{Stand, Known, known_empty, Holds, ValuesTyped, AreTyped, AllReady, prepared, registers_behind, loads_run, by_most, width_there, same_width, value_not_void}
 use Rattle.generic_code.proofs.Steps.{Alike}
 use Rattle.generic_code.proofs.Computes.{some_value}
-use Rattle.generic_code.proofs.Edges.{IsTaken, found, IsHead, AreHeads, phis_hold}
+use Rattle.generic_code.proofs.Edges.{IsTaken, found, AreHeads, phis_hold}
 use Rattle.generic_code.proofs.Flow.{number_next, code_from, EdgeStands, Stands, At}
 
 -- ---- code that begins with no phi

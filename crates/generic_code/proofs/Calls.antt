@@ -40,7 +40,7 @@ use Rattle.walks.proofs.Numbers.{lt_true}
 use Rattle.walks.proofs.Bytes.{take_mono}
 use Rattle.generic_code.specs.Literals.{Pool, type_of, loads, all_loaded, registers, register_of, literal, behind as behind_operand, behind_all}
 use Rattle.generic_code.proofs.Rows.{by_bits}
-use Rattle.generic_code.proofs.Loads.{Stand, ValuesTyped, AreTyped, Readied, AllReady, prepared, registers_behind, loads_run, hold_behind, width_there, same_width, by_most, Known}
+use Rattle.generic_code.proofs.Loads.{Stand, ValuesTyped, AreTyped, AllReady, prepared, registers_behind, loads_run, hold_behind, width_there, same_width, by_most, Known}
 use Rattle.generic_code.proofs.Computes.{some_value}
 use Rattle.generic_code.proofs.Touches.{breaks_here, here_is, alike_changed}
 use Rattle.generic_code.proofs.Steps.{Alike, alike_behind, Fol, here_step}

@@ -1,5 +1,5 @@
 -- The greater and the lesser of two numbers are followed by a comparison and a choice.
-use Rattle.std.proofs.Common.{◌≡◌, refl, sym, ap, subst, ◌∙◌, ℕ, zero, suc, ◌+◌, ◌<◌, ◌≤◌, ◌⊎◌, inl, inr, Bool, true, false, List, [], ◌∷◌, ◌++◌, length, Option, Some, None, arith}
+use Rattle.std.proofs.Common.{◌≡◌, refl, sym, ap, subst, ◌∙◌, ℕ, ◌+◌, ◌<◌, ◌≤◌, Bool, true, false, List, [], ◌∷◌, ◌++◌, Some, None, arith}
 use Rattle.std.specs.Prelude.{slice_get, if◌then◌else◌, ◌==◌, nat_lt, nat_le, not, int_lt, int_le, ℤ}
 use Rattle.std.proofs.lemmas.Int.{ints}
 use Rattle.ir_core.specs.Program.{Program}
@@ -7,7 +7,6 @@ use Rattle.ir_core.specs.Units.{units, has_result}
 use Rattle.ir_core.specs.declared.types.Ty.{Ty}
 use Rattle.ir_core.specs.declared.types.Ty.TheVariants.{Void}
 use Rattle.ir_core.specs.declared.code.Operand.{Operand}
-use Rattle.ir_core.specs.declared.code.Operand.TheVariants.{Value as Local, Num, Null, Place, Poison}
 use Rattle.ir_core.specs.declared.code.Flags.{Flags}
 use Rattle.ir_core.specs.declared.code.Pred.{Pred}
 use Rattle.ir_core.specs.declared.code.Pred.TheVariants.{Sge, Sle, Uge, Ule}
@@ -15,7 +14,6 @@ use Rattle.ir_core.specs.declared.code.BuiltIn.{BuiltIn}
 use Rattle.ir_core.specs.declared.code.BuiltIn.TheVariants.{SMax, SMin, UMax, UMin}
 use Rattle.ir_core.specs.declared.code.Inst.{Inst}
 use Rattle.ir_core.specs.declared.program.Function.{Function}
-use Rattle.ir_core.specs.declared.program.Global.{Global}
 use Rattle.rj_num.specs.Width.{signed}
 use Rattle.ir_meaning.specs.declared.activation.Activation.{Activation}
 use Rattle.ir_meaning.specs.Value.{Value}
@@ -28,7 +26,6 @@ use Rattle.ir_meaning.specs.Typed.{types, IsOperand, IsInteger}
 use Rattle.ir_meaning.proofs.Fitting.{compare-fits, greatest-fits}
 use Rattle.ir_meaning.proofs.Keeping.{operand-fits}
 use Rattle.ir_meaning.proofs.Numbering.{number-type}
-use Rattle.gmir.specs.declared.code.GType.{GType}
 use Rattle.gmir.specs.declared.code.GType.TheVariants.{S}
 use Rattle.gmir.specs.declared.code.GOp.TheVariants as g
 use Rattle.gmir.specs.declared.code.GInst.{GInst}
@@ -40,9 +37,9 @@ use Rattle.walks.specs.Walk.{Bits, Goes, Step}
 use Rattle.walks.specs.Refines.{RefinesBits}
 use Rattle.walks.specs.Simulation.{Chain, here, further, moves}
 use Rattle.walks.specs.Functions.{bits_of, Point, step_over_bits}
-use Rattle.generic_code.specs.Literals.{Pool, type_of, plain, loads, loaded, all_loaded, registers, register_of, literal, behind, behind_all}
+use Rattle.generic_code.specs.Literals.{Pool, type_of, plain, loads, all_loaded, registers, register_of, literal, behind, behind_all}
 use Rattle.generic_code.specs.Code.{chooses, predicate}
-use Rattle.generic_code.proofs.Loads.{Prepared, stand_front, stand_behind, value_below, Stand, stand_first, stand_tail, Holds, ValuesTyped, Readied, AllReady, prepared, registers_behind, loads_run, hold_behind, width_there, same_width, by_most, Known}
+use Rattle.generic_code.proofs.Loads.{Prepared, stand_front, stand_behind, value_below, Stand, stand_first, Holds, ValuesTyped, Readied, prepared, registers_behind, loads_run, width_there, same_width, by_most, Known}
 use Rattle.generic_code.proofs.Computes.{resized, some_integer, integer_value}
 use Rattle.generic_code.proofs.Results.{nothing, compare_row, select_row}
 use Rattle.generic_code.proofs.Steps.{Alike, alike_behind, Fol, here_step, step_is}

@@ -44,7 +44,7 @@ use Rattle.walks.proofs.Numbers.{number_constant}
 use Rattle.walks.proofs.Monotone.{keeps_number}
 use Rattle.generic_code.specs.Literals.{Pool, type_of, loads, all_loaded, registers, register_of, literal, behind as behind_operand}
 use Rattle.generic_code.specs.Code.{binary_op, predicate, cast_op}
-use Rattle.generic_code.proofs.Loads.{Stand, ValuesTyped, AreTyped, Readied, AllReady, prepared, registers_behind, width_there, same_width, by_most, Known}
+use Rattle.generic_code.proofs.Loads.{Stand, ValuesTyped, AreTyped, Readied, prepared, registers_behind, width_there, same_width, by_most, Known}
 use Rattle.generic_code.proofs.Results.{binary_row, compare_row, copy_row, select_row, cast_row}
 use Rattle.generic_code.proofs.Steps.{Alike, Fol, here_step, number, loaded_regs, loaded_state, follows_give, step_is}
 

@@ -35,7 +35,7 @@ use Rattle.walks.proofs.Numbers.{number_constant}
 use Rattle.walks.proofs.Monotone.{Keeps, keeps_number}
 use Rattle.walks.proofs.Bytes.{copied_mono, set_mono}
 use Rattle.generic_code.specs.Literals.{Pool, loads, all_loaded, registers}
-use Rattle.generic_code.proofs.Loads.{Stand, ValuesTyped, Readied, AllReady, prepared, registers_behind, loads_run, hold_behind, by_most, Known}
+use Rattle.generic_code.proofs.Loads.{Stand, ValuesTyped, Readied, prepared, registers_behind, loads_run, hold_behind, by_most, Known}
 use Rattle.generic_code.proofs.Touches.{breaks_here, here_is, alike_changed}
 use Rattle.generic_code.proofs.Steps.{Alike, Fol, here_step, step_is}
 

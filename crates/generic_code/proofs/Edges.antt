@@ -20,7 +20,7 @@ use Rattle.walks.specs.Refines.{RefinesBits}
 use Rattle.walks.specs.Functions.{bits_of}
 use Rattle.generic_code.specs.Edges.{Edge}
 use Rattle.generic_code.specs.Whole.{phi_register, phis_code}
-use Rattle.generic_code.proofs.Loads.{Holds, holds_set, Known}
+use Rattle.generic_code.proofs.Loads.{Holds, holds_set}
 use Rattle.generic_code.proofs.Results.{cut_same}
 
 -- ---- the edge that is taken, among those of a phi

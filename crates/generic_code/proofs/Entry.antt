@@ -28,10 +28,10 @@ use Rattle.walks.specs.Bits.{free, cut, number as number_in}
 use Rattle.walks.specs.Refines.{RefinesBits, AllRefine, RefinesEntry}
 use Rattle.walks.specs.Simulation.{Chain, here, further, moves, wants}
 use Rattle.walks.specs.Functions.{bits_of, all_values, Point, entry_over_bits, enter_over_bits, function_walk}
-use Rattle.generic_code.specs.Literals.{Pool, type_of, plain}
+use Rattle.generic_code.specs.Literals.{type_of, plain}
 use Rattle.walks.specs.Face.{frame_of}
 use Rattle.generic_code.specs.Whole.{params_code}
-use Rattle.generic_code.proofs.Loads.{Holds, ValuesTyped, width_there, same_width, by_most, Known}
+use Rattle.generic_code.proofs.Loads.{Holds, ValuesTyped, width_there, same_width, by_most}
 use Rattle.generic_code.proofs.Results.{nothing}
 use Rattle.generic_code.proofs.Computes.{some_value}
 use Rattle.generic_code.proofs.Calls.{reply_row, number_below}

@@ -1,15 +1,17 @@
 -- A state of a function and one of its code, instruction by instruction.
-use Rattle.std.proofs.Common.{◌≡◌, refl, sym, ap, subst, ◌∙◌, ℕ, zero, suc, ◌+◌, ◌*◌, ◌<◌, ◌≤◌, Bool, true, false, cond, List, [], ◌∷◌, ◌++◌, length, Option, Some, None, arith}
-use Rattle.std.specs.Prelude.{slice_get, drop, take, if◌then◌else◌}
+use Rattle.std.proofs.Common.{◌≡◌, refl, sym, ap, subst, ◌∙◌, ℕ, zero, suc, ◌+◌, Bool, true, false, cond, List, [], ◌∷◌, ◌++◌, Some, None, arith}
+use Rattle.std.specs.Prelude.{slice_get, drop, take, ◌==◌, if◌then◌else◌}
 use Rattle.std.proofs.lemmas.List.{append_assoc}
 use Rattle.std.proofs.lemmas.List.Sums.{sum_by-cons}
 use Rattle.ir_core.specs.Program.{Program}
 use Rattle.ir_core.specs.Units.{has_result, results}
 use Rattle.ir_core.specs.declared.types.Ty.{Ty}
-use Rattle.ir_core.specs.declared.types.Ty.TheVariants.{Void, Int, Ptr}
+use Rattle.ir_core.specs.declared.types.Ty.TheVariants.{Int, Ptr}
 use Rattle.ir_core.specs.declared.types.MemTy.{MemTy}
 use Rattle.ir_core.specs.declared.code.Operand.{Operand}
 use Rattle.ir_core.specs.declared.code.Operand.TheVariants.{Num}
+use Rattle.ir_core.specs.declared.code.CastOp.{CastOp}
+use Rattle.ir_core.specs.declared.code.CastOp.TheVariants.{Trunc, ZExt, SExt, PtrToInt, IntToPtr, Same}
 use Rattle.ir_core.specs.declared.code.BuiltIn.{BuiltIn}
 use Rattle.ir_core.specs.declared.code.BuiltIn.TheVariants.{MemCpy, MemMove, MemSet, SMax, SMin, UMax, UMin, Abs}
 use Rattle.ir_core.specs.declared.code.Op.{Op}
@@ -17,12 +19,12 @@ use Rattle.ir_core.specs.declared.code.Op.TheVariants.{Binary, Icmp, Cast, Selec
 use Rattle.ir_core.specs.declared.code.Inst.{Inst}
 use Rattle.ir_core.specs.declared.program.Function.{Function}
 use Rattle.ir_core.specs.declared.program.Global.{Global}
-use Rattle.ir_meaning.specs.declared.activation.Activation.{Activation}
 use Rattle.ir_meaning.specs.Value.{Value}
-use Rattle.ir_meaning.specs.Memory.{Memory, data_start}
+use Rattle.ir_meaning.specs.Memory.{data_start}
+use Rattle.ir_meaning.specs.Operators.{width}
 use Rattle.ir_meaning.specs.Step as ir
 use Rattle.ir_meaning.specs.Step.{function_at, insts_at, number_at}
-use Rattle.ir_meaning.specs.Typed.{types, IsTyped, IsTypedFunction}
+use Rattle.ir_meaning.specs.Typed.{types, IsTyped}
 use Rattle.gmir.specs.declared.code.GType.{GType}
 use Rattle.gmir.specs.declared.code.GType.TheVariants.{S}
 use Rattle.gmir.specs.declared.code.GInst.{GInst}
@@ -31,14 +33,14 @@ use Rattle.gmir.specs.Play as play
 use Rattle.gmir.specs.Play.{State}
 use Rattle.walks.specs.Walk.{Step}
 use Rattle.walks.specs.Simulation.{breaks}
-use Rattle.walks.specs.Functions.{Point, step_over_bits, function_walk}
-use Rattle.generic_code.specs.Literals.{Pool, type_of, skip, loads, all_loaded, behind_all}
-use Rattle.generic_code.specs.Parts.{Addend, Bytes, Times, addends_of, in_order, left_of, sum_types, sum_pool}
-use Rattle.generic_code.specs.Code.{Piece, piece_of, built_in}
+use Rattle.walks.specs.Functions.{Point, step_over_bits}
+use Rattle.generic_code.specs.Literals.{Pool, type_of, skip, all_loaded, behind_all}
+use Rattle.generic_code.specs.Parts.{Addend, addends_of, in_order, left_of, sum_types, sum_pool}
+use Rattle.generic_code.specs.Code.{Piece, piece_of, address, cast, built_in}
 use Rattle.generic_code.specs.Edges.{Edge, Ending, no_phis, ending_behind, ending_of}
 use Rattle.generic_code.specs.Whole.{is_jump, insts_ending, edges_to}
 use Rattle.generic_code.proofs.Loads.{Stand, stand_front, stand_tail, stand_behind, Known, ValuesTyped}
-use Rattle.generic_code.proofs.Steps.{Alike, Fol, here_step, step_is}
+use Rattle.generic_code.proofs.Steps.{Alike, Fol, here_step}
 use Rattle.generic_code.proofs.Edges.{IsTaken}
 use Rattle.generic_code.proofs.Distances.{IsPath}
 use Rattle.generic_code.proofs.Addresses.{left_stand}
@@ -94,8 +96,8 @@ module _ (program : Program) (f : GFunction) (tys : List Ty) (values : List Valu
     ops_stand : (ops : List (Ty × Operand)) → Stand f.types pool.next (all_loaded gl pool ops ++ more) → Stand f.types (behind_all gl pool ops).next more
     ops_stand ops st = stand_behind gl f.types ops pool more st
 
-    choice_stand : (ops : List (Ty × Operand)) → Stand f.types pool.next ((all_loaded gl pool ops ++ S 1 ∷ []) ++ more) → Stand f.types (skip 1 (behind_all gl pool ops)).next more
-    choice_stand ops st = stand_tail f.types (behind_all gl pool ops).next (S 1) more (stand_behind gl f.types ops pool (S 1 ∷ more) (regrouped pool.next (all_loaded gl pool ops) (S 1 ∷ []) more st))
+    further_stand : (ty : GType) (ops : List (Ty × Operand)) → Stand f.types pool.next ((all_loaded gl pool ops ++ ty ∷ []) ++ more) → Stand f.types (skip 1 (behind_all gl pool ops)).next more
+    further_stand ty ops st = stand_tail f.types (behind_all gl pool ops).next ty more (stand_behind gl f.types ops pool (ty ∷ more) (regrouped pool.next (all_loaded gl pool ops) (ty ∷ []) more st))
 
     absolute_stand : (ty : Ty) (ops : List (Ty × Operand)) → Stand f.types pool.next ((all_loaded gl pool ops ++ type_of ty ∷ S 1 ∷ []) ++ more) → Stand f.types (skip 2 (behind_all gl pool ops)).next more
     absolute_stand ty ops st =
@@ -104,20 +106,32 @@ module _ (program : Program) (f : GFunction) (tys : List Ty) (values : List Valu
         let e : ((behind_all gl pool ops).next + 1) + 1 ≡ (behind_all gl pool ops).next + 2 = omega arith in
         subst (λ (n : ℕ). Stand f.types n more) e two
 
+    address_stand : (wide : Bool) (ops : List (Ty × Operand)) → Stand f.types pool.next ((address gl wide pool value ops).types ++ more) → Stand f.types (address gl wide pool value ops).pool.next more
+    address_stand true ops st = ops_stand ops st
+    address_stand false ops st = further_stand (S 64) ops st
+
+    cast_stand : (from : Ty) (a : Operand) (o : CastOp) → Stand f.types pool.next ((cast gl pool value from a o).types ++ more) → Stand f.types (cast gl pool value from a o).pool.next more
+    cast_stand from a Trunc st = ops_stand ((from, a) ∷ []) st
+    cast_stand from a ZExt st = ops_stand ((from, a) ∷ []) st
+    cast_stand from a SExt st = ops_stand ((from, a) ∷ []) st
+    cast_stand from a PtrToInt st = ops_stand ((from, a) ∷ []) st
+    cast_stand from a IntToPtr st = address_stand (width from == 64) ((from, a) ∷ []) st
+    cast_stand from a Same st = ops_stand ((from, a) ∷ []) st
+
     built_stand : (ty : Ty) (arguments : List (Ty × Operand)) (which : BuiltIn) → Stand f.types pool.next ((built_in gl pool value ty arguments which).types ++ more) → Stand f.types (built_in gl pool value ty arguments which).pool.next more
     built_stand ty arguments MemCpy st = ops_stand (take 3 arguments) st
     built_stand ty arguments MemMove st = ops_stand (take 3 arguments) st
     built_stand ty arguments MemSet st = ops_stand (take 3 arguments) st
     built_stand ty arguments Abs st = absolute_stand ty (take 1 arguments ++ (ty, Num 0) ∷ []) st
-    built_stand ty arguments SMax st = choice_stand arguments st
-    built_stand ty arguments SMin st = choice_stand arguments st
-    built_stand ty arguments UMax st = choice_stand arguments st
-    built_stand ty arguments UMin st = choice_stand arguments st
+    built_stand ty arguments SMax st = further_stand (S 1) arguments st
+    built_stand ty arguments SMin st = further_stand (S 1) arguments st
+    built_stand ty arguments UMax st = further_stand (S 1) arguments st
+    built_stand ty arguments UMin st = further_stand (S 1) arguments st
 
     pub piece_stand : (ty : Ty) (op : Op) → Stand f.types pool.next ((piece_of gl ret value pool ty op).types ++ more) → Stand f.types (piece_of gl ret value pool ty op).pool.next more
     piece_stand ty (Binary o flags a b) st = ops_stand ((ty, a) ∷ (ty, b) ∷ []) st
     piece_stand ty (Icmp pred flags of a b) st = ops_stand ((of, a) ∷ (of, b) ∷ []) st
-    piece_stand ty (Cast o flags from a) st = ops_stand ((from, a) ∷ []) st
+    piece_stand ty (Cast o flags from a) st = cast_stand from a o st
     piece_stand ty (Select c a b) st = ops_stand ((Int 1, c) ∷ (ty, a) ∷ (ty, b) ∷ []) st
     piece_stand ty (Freeze a) st = ops_stand ((ty, a) ∷ []) st
     piece_stand ty (Phi pairs) st = st

@@ -1,59 +1,43 @@
 -- A jump, a conditional branch and a switch are followed by their code.
-use Rattle.std.proofs.Common.{◌≡◌, refl, sym, ap, subst, ◌∙◌, ℕ, zero, suc, ◌+◌, ◌*◌, ◌^◌, ◌<◌, ◌≤◌, Bool, true, false, cond, List, [], ◌∷◌, ◌++◌, length, map, Option, Some, None, arith}
-use Rattle.std.specs.Prelude.{slice_get, slice_index_or, sum_by, if◌then◌else◌, ◌==◌, nat_lt}
-use Rattle.std.proofs.lemmas.List.{append_assoc}
-use Rattle.std.proofs.lemmas.List.Sums.{sum_by-cons}
+use Rattle.std.proofs.Common.{◌≡◌, refl, sym, ap, subst, ◌∙◌, ℕ, zero, suc, ◌+◌, ◌*◌, ◌≤◌, Bool, true, false, cond, List, [], ◌∷◌, ◌++◌, length, Some, None, arith}
+use Rattle.std.specs.Prelude.{slice_get}
 use Rattle.ir_core.specs.Program.{Program}
 use Rattle.ir_core.specs.Units.{units, parts_in}
 use Rattle.ir_core.specs.declared.types.Ty.{Ty}
-use Rattle.ir_core.specs.declared.types.Ty.TheVariants.{Void, Int, Ptr}
+use Rattle.ir_core.specs.declared.types.Ty.TheVariants.{Int}
 use Rattle.ir_core.specs.declared.code.Operand.{Operand}
-use Rattle.ir_core.specs.declared.code.Operand.TheVariants.{Num}
 use Rattle.ir_core.specs.declared.code.Op.{Op}
 use Rattle.ir_core.specs.declared.code.Op.TheVariants.{Br, CondBr, Switch}
-use Rattle.ir_core.specs.declared.code.Pred.TheVariants.{Eq}
 use Rattle.ir_core.specs.declared.code.Inst.{Inst}
 use Rattle.ir_core.specs.declared.program.Function.{Function}
 use Rattle.ir_core.specs.declared.program.Global.{Global}
-use Rattle.ir_meaning.specs.declared.activation.Activation.{Activation}
 use Rattle.ir_meaning.specs.Value.{Value}
-use Rattle.ir_meaning.specs.Memory.{Memory}
-use Rattle.ir_meaning.specs.Operators.{width, compare, bit, holds}
+use Rattle.ir_meaning.specs.Operators.{width}
 use Rattle.ir_meaning.specs.Step as ir
 use Rattle.ir_meaning.specs.Step.{function_at, insts_at, number_at, operand, jump, act, case_block}
 use Rattle.ir_meaning.specs.Ranges.{FitsWidth}
-use Rattle.ir_meaning.specs.Typed.{types, IsOperand, IsInteger, IsValueType, IsTypedFunction, AreCases}
+use Rattle.ir_meaning.specs.Typed.{types, IsOperand, IsInteger, IsTypedFunction, AreCases, IsOp}
 use Rattle.ir_meaning.proofs.Keeping.{operand-fits}
-use Rattle.gmir.specs.declared.code.GType.{GType}
-use Rattle.gmir.specs.declared.code.GType.TheVariants.{S}
-use Rattle.gmir.specs.declared.code.GOp.TheVariants as g
 use Rattle.gmir.specs.declared.code.GInst.{GInst}
 use Rattle.gmir.specs.declared.code.GFunction.{GFunction}
 use Rattle.gmir.specs.Play as play
 use Rattle.gmir.specs.Play.{State, weight, is_legal}
-use Rattle.walks.specs.Registers.{Registers, write}
-use Rattle.walks.specs.Walk.{Bits, Step, Goes}
-use Rattle.walks.specs.Bits.{constant, free}
-use Rattle.walks.specs.Refines.{RefinesBits, RefinesMemory}
-use Rattle.walks.specs.Simulation.{Chain, here, further, moves, breaks}
-use Rattle.walks.specs.Functions.{bits_of, Point, step_over_bits}
-use Rattle.generic_code.specs.Literals.{Pool, plain, empty_pool, literal, loads, all_loaded, registers, register_of, behind_all}
-use Rattle.generic_code.specs.Parts.{first_register}
-use Rattle.generic_code.specs.Edges.{Edge, Ending, phi_operand, jump_to, heads, no_phis, spare, edge_operands, edge_code, edge_types, edge_uses, edge_blocks, goes_to, taken_at, branch_on, case_operand, test_code, test_types, branch, tests}
-use Rattle.generic_code.proofs.Loads.{Stand, stand_front, stand_rest, stand_first, stand_tail, stand_behind, Known, known_empty, known_next, Holds, ValuesTyped, Prepared, prepared, registers_behind, unchanged, loads_run, by_most, width_there, other_same, written_there, value_below, AreTyped, AllReady}
-use Rattle.generic_code.proofs.Results.{compare_row}
-use Rattle.generic_code.proofs.Computes.{resized, integer_value}
-use Rattle.generic_code.proofs.Choices.{no_flags}
-use Rattle.generic_code.proofs.Steps.{Alike, Fol, here_step, step_is}
-use Rattle.generic_code.proofs.Ways.{land_way, land_behind, moved, Ways, land_branch, lands_follow, lost_follows, Followed, heads_units, get_front, get_back, spare_long}
-use Rattle.generic_code.proofs.Tests.{HasNumber, AllCasesStand, target_stands, own_block}
+use Rattle.walks.specs.Refines.{RefinesBits}
+use Rattle.walks.specs.Functions.{bits_of, Point}
+use Rattle.generic_code.specs.Literals.{literal, loads, all_loaded, register_of, behind_all}
+use Rattle.generic_code.specs.Edges.{Edge, Ending, heads, edge_code, edge_uses, branch, tests}
+use Rattle.generic_code.proofs.Loads.{stand_front, stand_behind, ValuesTyped, prepared, registers_behind, loads_run}
+use Rattle.generic_code.proofs.Computes.{integer_value}
+use Rattle.generic_code.proofs.Steps.{Alike}
+use Rattle.generic_code.proofs.Ways.{land_behind, moved, Ways, land_branch, lands_follow, lost_follows, Followed, heads_units}
+use Rattle.generic_code.proofs.Tests.{AllCasesStand, own_block}
 use Rattle.generic_code.proofs.Switches.{land_tests}
 use Rattle.generic_code.proofs.Flow.{code_jump, code_from}
 use Rattle.generic_code.specs.Edges.{ending_of, ending_behind}
 use Rattle.generic_code.specs.Whole.{is_jump}
 use Rattle.ir_meaning.specs.Typed.{IsTyped}
-use Rattle.generic_code.proofs.Flow.{EdgeStands, AllStand, Stands, At}
-use Rattle.generic_code.proofs.Arrivals.{Begins, begins_with, loads_begin, BlockStands, heads_at, heads_typed, arrive, weigh_phis, Lands, land_edge, empty_heads, HeadsAt}
+use Rattle.generic_code.proofs.Flow.{EdgeStands, Stands, At}
+use Rattle.generic_code.proofs.Arrivals.{BlockStands, Lands, land_edge}
 
 module _ (program : Program) (symbol : ℕ) (function : Function) (there : function_at program symbol ≡ Some function) (f : GFunction)
     (typed : ValuesTyped program f (types function) []) (all : List Edge) (all_typed : IsTyped program) where
@@ -191,3 +175,13 @@ module _ (program : Program) (symbol : ℕ) (function : Function) (there : funct
           lands_follow program symbol function there f typed all (all_typed.typed symbol function there) p (record s { rest = code }) inst (case_block n cases otherwise) (24 + (256 * length cases + (4 + 88 * length (heads gl function (case_block n cases otherwise))))) (own_code p s code h.alike) at
           (ap (act program function p.0 p.1 inst) is ∙ ap (λ (z : Value). ir.take_edge program function p.0 p.1 inst (ir.switch_target z cases otherwise)) v) (omega (arith, units_low, parts, cost))
           (land n v)
+
+  -- an instruction that takes an edge, to blocks that stand
+  pub jump_follows : (p : Point program symbol) (s : State) (inst : Inst) → AtP p s → slice_get (insts_at function p.0.block) p.0.place ≡ Some inst → is_jump inst.op ≡ true → LeadsOn inst.op → Fd p s
+  jump_follows p s inst h at j on = by_op inst.op refl (well.insts p.0.block p.0.place inst at) j on
+    where
+      by_op : (op : Op) → inst.op ≡ op → IsOp program function inst.gives op → is_jump op ≡ true → LeadsOn op → Fd p s
+      by_op (Br to) e is j on = follow_br p s inst to h at e on
+      by_op (CondBr c a b) e is j on = follow_cond p s inst c a b h at e is.1 on.0 on.1
+      by_op (Switch of a otherwise cases) e is j on = follow_switch p s inst of a otherwise cases h at e is.1 is.2 is.4 on.0 on.1
+      by_op op e is j on = absurd (let bad : ⊥ = cc in bad)

@@ -14,6 +14,7 @@ pub mod Choices
 pub mod Runs
 pub mod Distances
 pub mod Absolutes
+pub mod Wide
 pub mod Addresses
 pub mod Pieces
 pub mod Entry

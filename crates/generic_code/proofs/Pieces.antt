@@ -1,6 +1,6 @@
 -- Each instruction that takes no edge is followed by its piece of code.
-use Rattle.std.proofs.Common.{◌≡◌, refl, sym, ap, subst, ◌∙◌, ℕ, zero, suc, ◌+◌, ◌*◌, ◌%◌, ◌^◌, ◌<◌, ◌≤◌, ◌⊎◌, inl, inr, Bool, true, false, List, [], ◌∷◌, ◌++◌, length, map, Option, Some, None, arith}
-use Rattle.std.specs.Prelude.{slice_get, slice_index_or, take}
+use Rattle.std.proofs.Common.{◌≡◌, refl, sym, ap, subst, ◌∙◌, ℕ, ◌+◌, ◌*◌, ◌%◌, ◌^◌, ◌<◌, ◌≤◌, inl, inr, Bool, true, false, List, [], ◌∷◌, ◌++◌, length, Option, Some, None, arith}
+use Rattle.std.specs.Prelude.{◌==◌, slice_get, take}
 use Rattle.std.proofs.lemmas.List.{append_assoc}
 use Rattle.std.proofs.lemmas.Nat.{pow_pos}
 use Rattle.ir_core.specs.Program.{Program}
@@ -10,7 +10,9 @@ use Rattle.ir_core.specs.declared.types.Ty.TheVariants.{Void, Int, Ptr}
 use Rattle.ir_core.specs.declared.types.MemTy.{MemTy}
 use Rattle.ir_core.specs.declared.code.Operand.{Operand}
 use Rattle.ir_core.specs.declared.code.Operand.TheVariants.{Num}
-use Rattle.ir_core.specs.declared.code.BinOp.{BinOp}
+use Rattle.ir_core.specs.declared.code.CastOp.{CastOp}
+use Rattle.ir_core.specs.declared.code.CastOp.TheVariants.{Trunc, ZExt, SExt, PtrToInt, IntToPtr, Same}
+use Rattle.ir_core.specs.declared.code.Flags.{Flags}
 use Rattle.ir_core.specs.declared.code.Pred.{Pred}
 use Rattle.ir_core.specs.declared.code.BuiltIn.{BuiltIn}
 use Rattle.ir_core.specs.declared.code.BuiltIn.TheVariants.{MemCpy, MemMove, MemSet, SMax, SMin, UMax, UMin, Abs}
@@ -21,17 +23,16 @@ use Rattle.ir_core.specs.declared.program.Function.{Function}
 use Rattle.ir_core.specs.declared.program.Global.{Global}
 use Rattle.ir_meaning.specs.declared.activation.Activation.{Activation}
 use Rattle.ir_meaning.specs.Value.{Value}
-use Rattle.ir_meaning.specs.Memory.{Memory, data_start, index_64, distance, part_address}
+use Rattle.ir_meaning.specs.Memory.{Memory, data_start}
 use Rattle.ir_meaning.specs.Operators.{width}
 use Rattle.ir_meaning.specs.Step as ir
 use Rattle.ir_meaning.specs.Step.{function_at, insts_at, number_at, act, operand, arguments_of, built_in, index_numbers, part, apart_or_equal, set, copied}
 use Rattle.ir_meaning.specs.Ranges.{FitsWidth}
-use Rattle.ir_meaning.specs.Typed.{types, IsOperand, IsInteger, IsValueType, IsResultType, IsStored, IsOp, IsBuiltIn, IsCallee, IsReturned, AreArguments, AreIndices, IsTyped, IsTypedFunction, IsLength}
+use Rattle.ir_meaning.specs.Typed.{types, IsOperand, IsInteger, IsValueType, IsResultType, IsOp, IsBuiltIn, IsCallee, IsReturned, AreArguments, AreIndices, IsTyped, IsLength, IsCast}
 use Rattle.ir_meaning.proofs.Bytes.{AllBytesIf, all-copies, byte-of}
 use Rattle.ir_meaning.proofs.Fitting.{abs-fits}
 use Rattle.ir_meaning.proofs.Keeping.{operand-fits}
 use Rattle.ir_meaning.proofs.Numbering.{number-type}
-use Rattle.gmir.specs.declared.code.GType.{GType}
 use Rattle.gmir.specs.declared.code.GType.TheVariants.{S}
 use Rattle.gmir.specs.declared.code.GOp.TheVariants as g
 use Rattle.gmir.specs.declared.code.GInst.{GInst}
@@ -39,49 +40,49 @@ use Rattle.gmir.specs.declared.code.GFunction.{GFunction}
 use Rattle.gmir.specs.Play as play
 use Rattle.gmir.specs.Play.{State}
 use Rattle.walks.specs.Registers.{Registers, write}
-use Rattle.walks.specs.Walk.{Bits, Step, Reply}
+use Rattle.walks.specs.Walk.{Bits}
 use Rattle.walks.specs.Bits.{constant}
 use Rattle.walks.specs.Refines.{RefinesBits}
-use Rattle.walks.specs.Simulation.{breaks}
 use Rattle.walks.specs.Functions.{bits_of, Point}
-use Rattle.generic_code.specs.Literals.{Pool, plain, skip, type_of, literal, behind, register_of, loads, all_loaded, registers, behind_all}
-use Rattle.generic_code.specs.Parts.{Addend, first_register, addends_of, in_order, sum_code, sum_types, sum_pool}
-use Rattle.generic_code.specs.Code.{Piece, binary_op, cast_op, predicate, chooses, result, one, piece_of, absolute}
+use Rattle.generic_code.specs.Literals.{Pool, plain, skip, type_of, literal, register_of, loads, all_loaded, registers, behind_all}
+use Rattle.generic_code.specs.Parts.{addends_of, in_order, sum_code, sum_types}
+use Rattle.generic_code.specs.Code.{Piece, cast_op, chooses, result, one, address, cast, piece_of, absolute}
 use Rattle.generic_code.specs.Whole.{is_jump}
-use Rattle.generic_code.proofs.Loads.{Stand, stand_front, stand_tail, stand_behind, Known, known_write, known_next, known_second, Holds, ValuesTyped, AreTyped, Prepared, prepared, registers_behind, loads_run, value_below, width_there}
+use Rattle.generic_code.proofs.Loads.{Stand, stand_front, stand_behind, Known, known_write, known_next, known_second, ValuesTyped, AreTyped, Prepared, prepared, registers_behind, loads_run, value_below, width_there}
 use Rattle.generic_code.proofs.Results.{nothing}
 use Rattle.generic_code.proofs.Steps.{Alike, Fol, here_step}
 use Rattle.generic_code.proofs.Computes.{some_integer, some_value, integer_value, cast_value, cast_to, follows_binary, follows_icmp, follows_cast, follows_select, follows_freeze, follows_break}
-use Rattle.generic_code.proofs.Touches.{stored_value, stored_real, follows_load, follows_store, follows_alloca}
+use Rattle.generic_code.proofs.Touches.{stored_value, follows_load, follows_store, follows_alloca}
 use Rattle.generic_code.proofs.Calls.{typed_arguments, follows_void, follows_return, follows_trap, follows_call, follows_void_call}
 use Rattle.generic_code.proofs.Copies.{follows_copy, follows_fill}
 use Rattle.generic_code.proofs.Choices.{Chooses, greatest_signed, least_signed, greatest, least, follows_choice}
 use Rattle.generic_code.proofs.Absolutes.{follows_absolute}
-use Rattle.generic_code.proofs.Runs.{Gets, gets_then, follows_gets}
-use Rattle.generic_code.proofs.Distances.{IsPath, AllGiven, AreAddends, Led, led_of, typed_addends, order_addends, order_given, order_total, order_length, times_of, total}
-use Rattle.generic_code.proofs.Addresses.{AreShort, SumRun, sum_run, order_short}
+use Rattle.generic_code.proofs.Wide.{narrow, follows_address}
+use Rattle.generic_code.proofs.Runs.{gets_then, follows_gets}
+use Rattle.generic_code.proofs.Distances.{IsPath, led_of, typed_addends, order_addends, order_given, order_total, order_length, times_of}
+use Rattle.generic_code.proofs.Addresses.{SumRun, sum_run, order_short}
 
 -- ---- lists of arguments by their types
 
-record Two (arguments : List (Ty × Operand)) (a b : Ty) : Type 0 where
-  x : Operand
-  y : Operand
-  is : arguments ≡ (a, x) ∷ (b, y) ∷ []
+pub record Two (arguments : List (Ty × Operand)) (a b : Ty) : Type 0 where
+  pub x : Operand
+  pub y : Operand
+  pub is : arguments ≡ (a, x) ∷ (b, y) ∷ []
 
-two_of : (arguments : List (Ty × Operand)) (a b : Ty) → types_of_arguments arguments ≡ a ∷ b ∷ [] → Two arguments a b
+pub two_of : (arguments : List (Ty × Operand)) (a b : Ty) → types_of_arguments arguments ≡ a ∷ b ∷ [] → Two arguments a b
 two_of [] a b e = absurd (let bad : ⊥ = cc in bad)
 two_of (p ∷ []) a b e = absurd (let bad : ⊥ = cc in bad)
 two_of ((t, x) ∷ (u, y) ∷ []) a b e = let first : t ≡ a = cc in let second : u ≡ b = cc in record { x = x; y = y; is = cc }
 two_of (p ∷ q ∷ o ∷ more) a b e = absurd (let bad : ⊥ = cc in bad)
 
-record Four (arguments : List (Ty × Operand)) (a b c d : Ty) : Type 0 where
-  x : Operand
-  y : Operand
-  z : Operand
-  v : Operand
-  is : arguments ≡ (a, x) ∷ (b, y) ∷ (c, z) ∷ (d, v) ∷ []
+pub record Four (arguments : List (Ty × Operand)) (a b c d : Ty) : Type 0 where
+  pub x : Operand
+  pub y : Operand
+  pub z : Operand
+  pub v : Operand
+  pub is : arguments ≡ (a, x) ∷ (b, y) ∷ (c, z) ∷ (d, v) ∷ []
 
-four_of : (arguments : List (Ty × Operand)) (a b c d : Ty) → types_of_arguments arguments ≡ a ∷ b ∷ c ∷ d ∷ [] → Four arguments a b c d
+pub four_of : (arguments : List (Ty × Operand)) (a b c d : Ty) → types_of_arguments arguments ≡ a ∷ b ∷ c ∷ d ∷ [] → Four arguments a b c d
 four_of [] a b c d e = absurd (let bad : ⊥ = cc in bad)
 four_of (p ∷ []) a b c d e = absurd (let bad : ⊥ = cc in bad)
 four_of (p ∷ q ∷ []) a b c d e = absurd (let bad : ⊥ = cc in bad)
@@ -90,7 +91,7 @@ four_of ((t, x) ∷ (u, y) ∷ (v, z) ∷ (w, q) ∷ []) a b c d e =
     let one : t ≡ a = cc in let two : u ≡ b = cc in let three : v ≡ c = cc in let four : w ≡ d = cc in record { x = x; y = y; z = z; v = q; is = cc }
 four_of (p ∷ q ∷ o ∷ l ∷ k ∷ more) a b c d e = absurd (let bad : ⊥ = cc in bad)
 
-length_value : (w : ℕ) → IsLength w → IsValueType (Int w)
+pub length_value : (w : ℕ) → IsLength w → IsValueType (Int w)
 length_value w (inl e) = (omega (arith, e), omega (arith, e))
 length_value w (inr e) = (omega (arith, e), omega (arith, e))
 
@@ -333,6 +334,35 @@ module _ (program : Program) (symbol : ℕ) (function : Function) (there : funct
   returns (Some x) is ret stand =
       glue (loads gl next ((function.ret, x) ∷ [])) _ (follows_return program symbol function there f typed R measure now memory s inst h at next low r m x is ret.0 ret.1 stand)
 
+  -- ---- casts
+
+  by_one : (o : CastOp) (flags : Flags) (from : Ty) (x : Operand) → inst.op ≡ Cast o flags from x → IsCast o from inst.gives → IsOperand (types function) from x
+      → Stand f.types next.next (all_loaded gl next ((from, x) ∷ [])) → Goes (behind_all gl next ((from, x) ∷ []))
+      → F ((one gl next ((from, x) ∷ []) (cast_op o) (N ∷ []) 0 []).code ++ r)
+  by_one o flags from x is is_cast is_x stand goes =
+      let some = cast_to o from inst.gives is_cast in
+      glue (loads gl next ((from, x) ∷ [])) _
+      (follows_cast program symbol function there f typed R measure now memory s inst h at next low r m (some_value inst.gives some).1 (some_value inst.gives some).0 o flags from x is is_cast is_x stand
+      (λ alike. goes _ memory _ alike (valued (some_value inst.gives some).1 _ _ _ (ready ((from, x) ∷ []) (cast_value o from inst.gives is_cast, is_x, tt) stand).known) refl))
+
+  to_address : (wide : Bool) (flags : Flags) (from : Ty) (x : Operand) → (width from == 64) ≡ wide → inst.op ≡ Cast IntToPtr flags from x → IsCast IntToPtr from inst.gives → IsOperand (types function) from x
+      → Stand f.types next.next (address gl wide next N ((from, x) ∷ [])).types → Goes (address gl wide next N ((from, x) ∷ [])).pool → F ((address gl wide next N ((from, x) ∷ [])).code ++ r)
+  to_address true flags from x e is is_cast is_x stand goes = by_one IntToPtr flags from x is is_cast is_x stand goes
+  to_address false flags from x e is is_cast is_x stand goes =
+      let some = integer_value from is_cast.0 in
+      let pre = ready ((from, x) ∷ []) (some, is_x, tt) (stand_front f.types next.next (all_loaded gl next ((from, x) ∷ [])) (S 64 ∷ []) stand) in
+      follows_address program symbol function there f typed R measure now memory s inst h at next low r m flags from x is is_cast.0 is_cast.1 (narrow from is_cast.0 e) is_x stand
+      (λ alike. goes _ memory _ alike (valued (pointer_result is_cast.1) _ _ _ (known_next f (types function) (behind_all gl next ((from, x) ∷ [])) _ _ pre.known)) refl)
+
+  casts : (o : CastOp) (flags : Flags) (from : Ty) (x : Operand) → inst.op ≡ Cast o flags from x → IsCast o from inst.gives → IsOperand (types function) from x
+      → Stand f.types next.next (cast gl next N from x o).types → Goes (cast gl next N from x o).pool → F ((cast gl next N from x o).code ++ r)
+  casts Trunc flags from x is is_cast is_x stand goes = by_one Trunc flags from x is is_cast is_x stand goes
+  casts ZExt flags from x is is_cast is_x stand goes = by_one ZExt flags from x is is_cast is_x stand goes
+  casts SExt flags from x is is_cast is_x stand goes = by_one SExt flags from x is is_cast is_x stand goes
+  casts PtrToInt flags from x is is_cast is_x stand goes = by_one PtrToInt flags from x is is_cast is_x stand goes
+  casts IntToPtr flags from x is is_cast is_x stand goes = to_address (width from == 64) flags from x refl is is_cast is_x stand goes
+  casts Same flags from x is is_cast is_x stand goes = by_one Same flags from x is is_cast is_x stand goes
+
   -- ---- each instruction
 
   pub by_op : (op : Op) → inst.op ≡ op → IsOp program function inst.gives op → is_jump op ≡ false → Stand f.types next.next (piece op).types → Goes (piece op).pool → F ((piece op).code ++ r)
@@ -346,11 +376,7 @@ module _ (program : Program) (symbol : ℕ) (function : Function) (there : funct
       glue (loads gl next ((of, x) ∷ (of, y) ∷ [])) _
       (follows_icmp program symbol function there f typed R measure now memory s inst h at next low r m gives (λ e. let z : Void ≡ Int 1 = sym e ∙ ops.0 in let bad : ⊥ = cc in bad) pred flags of x y is ops.0 ops.1 ops.2 ops.3 stand
       (λ alike. goes _ memory _ alike (valued gives _ _ _ (ready ((of, x) ∷ (of, y) ∷ []) (ops.1, ops.2, (ops.1, ops.3, tt)) stand).known) refl))
-  by_op (Cast o flags from x) is ops _ stand goes =
-      let some = cast_to o from inst.gives ops.0 in
-      glue (loads gl next ((from, x) ∷ [])) _
-      (follows_cast program symbol function there f typed R measure now memory s inst h at next low r m (some_value inst.gives some).1 (some_value inst.gives some).0 o flags from x is ops.0 ops.1 stand
-      (λ alike. goes _ memory _ alike (valued (some_value inst.gives some).1 _ _ _ (ready ((from, x) ∷ []) (cast_value o from inst.gives ops.0, ops.1, tt) stand).known) refl))
+  by_op (Cast o flags from x) is ops _ stand goes = casts o flags from x is ops.0 ops.1 stand goes
   by_op (Select c x y) is ops _ stand goes =
       glue (loads gl next ((Int 1, c) ∷ (inst.gives, x) ∷ (inst.gives, y) ∷ [])) _
       (follows_select program symbol function there f typed R measure now memory s inst h at next low r m (some_value inst.gives ops.0).1 (some_value inst.gives ops.0).0 c x y is ops.0 ops.1 ops.2 ops.3 stand

@@ -1,13 +1,11 @@
 -- Code that computes one register after another runs, and an instruction behind it gives a value.
-use Rattle.std.proofs.Common.{◌≡◌, refl, sym, ap, subst, ◌∙◌, ℕ, ◌+◌, ◌*◌, ◌<◌, ◌≤◌, Bool, true, List, [], ◌∷◌, ◌++◌, length, Some, arith}
+use Rattle.std.proofs.Common.{◌≡◌, refl, sym, ap, subst, ◌∙◌, ℕ, ◌+◌, ◌*◌, ◌≤◌, true, List, [], ◌∷◌, ◌++◌, Some, arith}
 use Rattle.std.specs.Prelude.{slice_get}
 use Rattle.std.proofs.lemmas.List.{append_assoc}
 use Rattle.ir_core.specs.Program.{Program}
 use Rattle.ir_core.specs.Units.{units, has_result}
-use Rattle.ir_core.specs.declared.types.Ty.{Ty}
 use Rattle.ir_core.specs.declared.code.Inst.{Inst}
 use Rattle.ir_core.specs.declared.program.Function.{Function}
-use Rattle.ir_core.specs.declared.program.Global.{Global}
 use Rattle.ir_meaning.specs.declared.activation.Activation.{Activation}
 use Rattle.ir_meaning.specs.Value.{Value}
 use Rattle.ir_meaning.specs.Memory.{Memory}

@@ -1,14 +1,14 @@
 -- Small functions, translated.
-use Rattle.std.proofs.Common.{◌≡◌, refl, ℕ, false, List, [], ◌∷◌, Some}
+use Rattle.std.proofs.Common.{◌≡◌, refl, ℕ, false, [], ◌∷◌, Some}
 use Rattle.ir_core.specs.Program.{Program}
-use Rattle.ir_core.specs.declared.types.Ty.TheVariants.{Void, Int}
+use Rattle.ir_core.specs.declared.types.Ty.TheVariants.{Void, Int, Ptr}
 use Rattle.ir_core.specs.declared.code.Flags.{Flags}
 use Rattle.ir_core.specs.declared.code.Operand.TheVariants.{Value as Local, Num}
 use Rattle.ir_core.specs.declared.code.BinOp.TheVariants.{Add, UDiv}
 use Rattle.ir_core.specs.declared.code.Pred.TheVariants.{Ult}
-use Rattle.ir_core.specs.declared.code.Op.TheVariants.{Binary, Icmp, Phi, Br, CondBr, Switch, Unreachable, Ret}
+use Rattle.ir_core.specs.declared.code.CastOp.TheVariants.{IntToPtr}
+use Rattle.ir_core.specs.declared.code.Op.TheVariants.{Binary, Icmp, Cast, Phi, Br, CondBr, Switch, Unreachable, Ret}
 use Rattle.ir_core.specs.declared.program.Function.{Function}
-use Rattle.gmir.specs.declared.code.GType.{GType}
 use Rattle.gmir.specs.declared.code.GType.TheVariants.{S, P0}
 use Rattle.gmir.specs.declared.code.GOp.TheVariants as g
 use Rattle.gmir.specs.declared.code.GInst.{GInst}
@@ -121,6 +121,36 @@ pub choosing_is : translated (alone choosing) 0 choosing
           ∷ (plain g.Constant (9 ∷ []) [] 7 ∷ jump 1 ∷ []) ∷ [];
     }
 choosing_is = refl
+
+-- the address that a number of 32 bits is: that number is extended to 64 bits first
+abbrev addressing : Function
+addressing = record {
+  name = [];
+  params = Int 32 ∷ Int 64 ∷ [];
+  ret = Ptr;
+  blocks = record {
+    insts =
+        record { gives = Ptr; op = Cast IntToPtr none (Int 32) (Local 0) }
+        ∷ record { gives = Ptr; op = Cast IntToPtr none (Int 64) (Local 1) }
+        ∷ record { gives = Void; op = Ret (Some (Local 2)) } ∷ [];
+  } ∷ [];
+}
+
+pub addressing_is : translated (alone addressing) 0 addressing
+    ≡ record {
+      symbol = 0;
+      values = 4;
+      end = 268439552;
+      types = S 32 ∷ S 64 ∷ P0 ∷ P0 ∷ S 64 ∷ [];
+      blocks =
+          (plain g.Param (0 ∷ []) [] 0
+          ∷ plain g.Param (1 ∷ []) [] 1
+          ∷ plain g.ZExt (4 ∷ []) (0 ∷ []) 0
+          ∷ plain g.IntToPtr (2 ∷ []) (4 ∷ []) 0
+          ∷ plain g.IntToPtr (3 ∷ []) (1 ∷ []) 0
+          ∷ plain g.Return [] (2 ∷ []) 0 ∷ []) ∷ [];
+    }
+addressing_is = refl
 
 -- 8 and 12 for each of a number of 32 bits, and 20 bytes in two parts: they are added at last, and 8 is a shift by 3
 pub sum_code_is : sum_code [] 1 0 (empty_pool 4) (in_order (Bytes 4 ∷ Times 32 2 8 ∷ Bytes 16 ∷ Times 64 3 12 ∷ []))

@@ -1,30 +1,18 @@
 -- A test of a register against a number of its type.
-use Rattle.std.proofs.Common.{◌≡◌, refl, sym, ap, subst, ◌∙◌, ℕ, zero, suc, ◌+◌, ◌*◌, ◌^◌, ◌<◌, ◌≤◌, Bool, true, false, cond, List, [], ◌∷◌, ◌++◌, length, map, Option, Some, None, arith}
-use Rattle.std.specs.Prelude.{slice_get, slice_index_or, sum_by, if◌then◌else◌, ◌==◌, nat_lt}
-use Rattle.std.proofs.lemmas.List.{append_assoc}
-use Rattle.std.proofs.lemmas.List.Sums.{sum_by-cons}
+use Rattle.std.proofs.Common.{◌≡◌, refl, sym, ap, subst, ◌∙◌, ℕ, ◌+◌, ◌^◌, ◌<◌, ◌≤◌, Bool, true, false, List, [], ◌∷◌, ◌++◌, Some, arith}
+use Rattle.std.specs.Prelude.{if◌then◌else◌, ◌==◌}
 use Rattle.ir_core.specs.Program.{Program}
-use Rattle.ir_core.specs.Units.{units, parts_in}
 use Rattle.ir_core.specs.declared.types.Ty.{Ty}
-use Rattle.ir_core.specs.declared.types.Ty.TheVariants.{Void, Int, Ptr}
 use Rattle.ir_core.specs.declared.code.Operand.{Operand}
 use Rattle.ir_core.specs.declared.code.Operand.TheVariants.{Num}
-use Rattle.ir_core.specs.declared.code.Op.{Op}
-use Rattle.ir_core.specs.declared.code.Op.TheVariants.{Br, CondBr, Switch}
 use Rattle.ir_core.specs.declared.code.Pred.TheVariants.{Eq}
-use Rattle.ir_core.specs.declared.code.Inst.{Inst}
 use Rattle.ir_core.specs.declared.program.Function.{Function}
 use Rattle.ir_core.specs.declared.program.Global.{Global}
 use Rattle.ir_meaning.specs.declared.activation.Activation.{Activation}
-use Rattle.ir_meaning.specs.Value.{Value}
 use Rattle.ir_meaning.specs.Memory.{Memory}
-use Rattle.ir_meaning.specs.Operators.{width, compare, bit, holds}
-use Rattle.ir_meaning.specs.Step as ir
-use Rattle.ir_meaning.specs.Step.{function_at, insts_at, number_at, operand, jump, act, case_block}
-use Rattle.ir_meaning.specs.Ranges.{FitsWidth}
-use Rattle.ir_meaning.specs.Typed.{types, IsOperand, IsInteger, IsValueType, IsTypedFunction, AreCases}
-use Rattle.ir_meaning.proofs.Keeping.{operand-fits}
-use Rattle.gmir.specs.declared.code.GType.{GType}
+use Rattle.ir_meaning.specs.Operators.{width, compare, bit}
+use Rattle.ir_meaning.specs.Step.{function_at, case_block}
+use Rattle.ir_meaning.specs.Typed.{types, IsInteger, IsTypedFunction}
 use Rattle.gmir.specs.declared.code.GType.TheVariants.{S}
 use Rattle.gmir.specs.declared.code.GOp.TheVariants as g
 use Rattle.gmir.specs.declared.code.GInst.{GInst}
@@ -32,23 +20,20 @@ use Rattle.gmir.specs.declared.code.GFunction.{GFunction}
 use Rattle.gmir.specs.Play as play
 use Rattle.gmir.specs.Play.{State, weight, is_legal}
 use Rattle.walks.specs.Registers.{Registers, write}
-use Rattle.walks.specs.Walk.{Bits, Step, Goes}
+use Rattle.walks.specs.Walk.{Bits, Step}
 use Rattle.walks.specs.Bits.{constant, free}
-use Rattle.walks.specs.Refines.{RefinesBits, RefinesMemory}
-use Rattle.walks.specs.Simulation.{Chain, here, further, moves, breaks}
-use Rattle.walks.specs.Functions.{bits_of, Point, step_over_bits}
-use Rattle.generic_code.specs.Literals.{Pool, plain, empty_pool, literal, loads, all_loaded, registers, register_of, behind_all}
-use Rattle.generic_code.specs.Parts.{first_register}
-use Rattle.generic_code.specs.Edges.{Edge, Ending, phi_operand, jump_to, heads, no_phis, spare, edge_operands, edge_code, edge_types, edge_uses, edge_blocks, goes_to, taken_at, branch_on, case_operand, test_code, test_types, branch, tests}
-use Rattle.generic_code.proofs.Loads.{behind_all_above, Stand, stand_front, stand_rest, stand_first, stand_tail, stand_behind, Known, known_empty, known_next, Holds, ValuesTyped, Prepared, prepared, registers_behind, unchanged, loads_run, by_most, width_there, other_same, written_there, value_below, AreTyped, AllReady}
+use Rattle.walks.specs.Refines.{RefinesBits}
+use Rattle.walks.specs.Simulation.{Chain}
+use Rattle.walks.specs.Functions.{bits_of}
+use Rattle.generic_code.specs.Literals.{Pool, plain, loads, all_loaded, registers, register_of, behind_all}
+use Rattle.generic_code.specs.Edges.{Edge, test_code, test_types}
+use Rattle.generic_code.proofs.Loads.{behind_all_above, Stand, stand_front, stand_first, stand_behind, Known, known_next, Holds, ValuesTyped, Prepared, prepared, registers_behind, unchanged, loads_run, by_most, width_there, other_same, written_there, value_below}
 use Rattle.generic_code.proofs.Results.{compare_row}
 use Rattle.generic_code.proofs.Computes.{resized, integer_value}
 use Rattle.generic_code.proofs.Choices.{no_flags}
-use Rattle.generic_code.proofs.Steps.{Alike, Fol, here_step, step_is}
-use Rattle.generic_code.proofs.Runs.{Runs, run_then, run_one, computed_bits}
-use Rattle.generic_code.proofs.Ways.{land_way, land_behind, moved, Ways, land_branch, lands_follow, lost_follows, Followed, heads_units, get_front, get_back, spare_long}
-use Rattle.generic_code.proofs.Flow.{EdgeStands, AllStand, Stands, At}
-use Rattle.generic_code.proofs.Arrivals.{Begins, begins_with, loads_begin, BlockStands, heads_at, heads_typed, arrive, weigh_phis, Lands, land_edge, empty_heads, HeadsAt}
+use Rattle.generic_code.proofs.Steps.{Alike}
+use Rattle.generic_code.proofs.Runs.{run_then, run_one, computed_bits}
+use Rattle.generic_code.proofs.Arrivals.{BlockStands, Lands}
 
 -- a number is equal to another both ways
 equal_both : (a b : ℕ) → (a == b) ≡ (b == a)

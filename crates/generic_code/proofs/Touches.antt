@@ -45,7 +45,7 @@ use Rattle.walks.proofs.Numbers.{number_constant}
 use Rattle.walks.proofs.Monotone.{keeps_number}
 use Rattle.walks.proofs.Bytes.{bits_mono, read_mono, written_mono, append_mono}
 use Rattle.generic_code.specs.Literals.{Pool, type_of, loads, all_loaded, registers, register_of, literal, behind as behind_operand}
-use Rattle.generic_code.proofs.Loads.{Stand, Holds, ValuesTyped, Readied, AllReady, prepared, registers_behind, loads_run, hold_behind, width_there, same_width, by_most, Known}
+use Rattle.generic_code.proofs.Loads.{Stand, Holds, ValuesTyped, Readied, prepared, registers_behind, loads_run, hold_behind, width_there, same_width, by_most, Known}
 use Rattle.generic_code.proofs.Results.{cut_same}
 use Rattle.generic_code.proofs.Bytes.{read_row, written_row}
 use Rattle.generic_code.proofs.Steps.{Alike, alike_behind, Fol, here_step, step_is}

@@ -1,8 +1,7 @@
 -- The generic code of an instruction. Flags are dropped, a poison value may be any number, and `freeze` is a copy.
-use Rattle.std.specs.Prelude.{ℕ, ◌+◌, ◌*◌, List, [], ◌∷◌, ◌++◌, take, Option, Some, None}
+use Rattle.std.specs.Prelude.{ℕ, ◌+◌, ◌*◌, ◌==◌, Bool, true, false, List, [], ◌∷◌, ◌++◌, take, Option, Some, None}
 use Rattle.ir_core.specs.declared.types.Ty.{Ty}
 use Rattle.ir_core.specs.declared.types.Ty.TheVariants.{Void, Int, Ptr}
-use Rattle.ir_core.specs.declared.types.MemTy.{MemTy}
 use Rattle.ir_core.specs.declared.code.Operand.{Operand}
 use Rattle.ir_core.specs.declared.code.Operand.TheVariants.{Num}
 use Rattle.ir_core.specs.declared.code.BinOp.{BinOp}
@@ -18,6 +17,7 @@ use Rattle.ir_core.specs.declared.code.Op.TheVariants.{Binary, Icmp, Cast, Selec
 use Rattle.ir_core.specs.declared.program.Global.{Global}
 use Rattle.ir_core.specs.Layout.{size, aligned}
 use Rattle.ir_meaning.specs.Memory.{byte_count}
+use Rattle.ir_meaning.specs.Operators.{width}
 use Rattle.gmir.specs.declared.code.GType.{GType}
 use Rattle.gmir.specs.declared.code.GType.TheVariants.{S}
 use Rattle.gmir.specs.declared.code.GOp.{GOp}
@@ -91,6 +91,22 @@ module _ (globals : List Global) where
     pool = behind_all globals pool operands;
   }
 
+  -- the address that is a number, by whether that has 64 bits: a narrower one is extended by zeros first (LangRef, `inttoptr .. to`)
+  abbrev pub address : Bool → Pool → ℕ → List (Ty × Operand) → Piece
+  address true pool value operands = one pool operands g.IntToPtr (value ∷ []) 0 []
+  address false pool value operands = record {
+    code =
+        loads globals pool operands
+        ++ plain g.ZExt ((behind_all globals pool operands).next ∷ []) (registers globals pool operands) 0
+        ∷ plain g.IntToPtr (value ∷ []) ((behind_all globals pool operands).next ∷ []) 0 ∷ [];
+    types = all_loaded globals pool operands ++ S 64 ∷ [];
+    pool = skip 1 (behind_all globals pool operands);
+  }
+
+  abbrev pub cast : Pool → ℕ → Ty → Operand → CastOp → Piece
+  cast pool value from a IntToPtr = address (width from == 64) pool value ((from, a) ∷ [])
+  cast pool value from a op = one pool ((from, a) ∷ []) (cast_op op) (value ∷ []) 0 []
+
   -- the greater or lesser of two numbers: a comparison, and the choice by it
   abbrev pub choice : Pool → ℕ → List (Ty × Operand) → ℕ → Piece
   choice pool value operands place = record {
@@ -142,7 +158,7 @@ module _ (globals : List Global) where
   abbrev pub piece_of : Ty → ℕ → Pool → Ty → Op → Piece
   piece_of ret value pool ty (Binary op flags a b) = one pool ((ty, a) ∷ (ty, b) ∷ []) (binary_op op) (value ∷ []) 0 []
   piece_of ret value pool ty (Icmp pred flags of a b) = one pool ((of, a) ∷ (of, b) ∷ []) g.Icmp (value ∷ []) (predicate pred) []
-  piece_of ret value pool ty (Cast op flags from a) = one pool ((from, a) ∷ []) (cast_op op) (value ∷ []) 0 []
+  piece_of ret value pool ty (Cast op flags from a) = cast pool value from a op
   piece_of ret value pool ty (Select condition a b) = one pool ((Int 1, condition) ∷ (ty, a) ∷ (ty, b) ∷ []) g.Select (value ∷ []) 0 []
   piece_of ret value pool ty (Freeze a) = one pool ((ty, a) ∷ []) g.Copy (value ∷ []) 0 []
   piece_of ret value pool ty (Alloca of count) = one pool [] g.TakeData (value ∷ []) (aligned (size of * count) 16) []

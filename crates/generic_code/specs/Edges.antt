@@ -16,7 +16,7 @@ use Rattle.gmir.specs.declared.code.GType.{GType}
 use Rattle.gmir.specs.declared.code.GType.TheVariants.{S}
 use Rattle.gmir.specs.declared.code.GOp.TheVariants.{Icmp, Br as Jump, BrCond}
 use Rattle.gmir.specs.declared.code.GInst.{GInst}
-use Rattle.generic_code.specs.Literals.{Pool, plain, empty_pool, skip, loads, all_loaded, registers, behind_all}
+use Rattle.generic_code.specs.Literals.{Pool, plain, empty_pool, loads, all_loaded, registers, behind_all}
 use Rattle.generic_code.specs.Parts.{first_register}
 
 -- an edge to a block: the generic block that takes it, and the registers that the block's phis read on it
