@@ -1,5 +1,11 @@
-pub mod Maps
-pub mod Put
-pub mod Heads
-pub mod Wholes
-pub mod Adding
+pub mod Insts
+pub mod Phis
+pub mod Bodies
+pub mod Joined
+pub mod Types
+pub mod Grouping
+pub mod Assembling
+pub mod Joining
+pub mod Totals
+pub mod Fitting
+pub mod Whole

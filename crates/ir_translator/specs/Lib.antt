@@ -1,5 +1,4 @@
-pub mod Maps
-pub mod Written
-pub mod Sums
-pub mod Jumps
-pub mod Forms
+pub mod Fit
+pub mod Groups
+pub mod Joined
+pub mod Laid

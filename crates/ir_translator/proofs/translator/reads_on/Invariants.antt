@@ -1,6 +1,0 @@
-use Rattle.std.proofs.Common.{◌≡◌, ◌++◌, drop}
-use Rattle.ir_translator.specs.Written.{reads_on}
-use Rattle.ir_translator.proofs.translator.reads_on.Given as goal
-
-abbrev pub invariant-loop-head : goal.invariant-loop-head
-invariant-loop-head l = l.operands ++ reads_on l.from (drop l.head-index l.heads) ≡ reads_on l.from l.heads

@@ -1,0 +1,6 @@
+pub mod Maps
+pub mod Put
+pub mod Heads
+pub mod Wholes
+pub mod Closing
+pub mod Adding

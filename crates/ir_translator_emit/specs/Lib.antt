@@ -1,0 +1,5 @@
+pub mod Maps
+pub mod Written
+pub mod Sums
+pub mod Jumps
+pub mod Forms
