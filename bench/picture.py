@@ -97,7 +97,7 @@ def bars(path, title, name_y, names, series):
         for at, (said, found) in enumerate(series):
             if found[place] is not None:
                 picture.box(left + wide * at, axes.y(found[place]), wide * 0.95, axes.bottom - axes.y(found[place]), COLOURS[at % len(COLOURS)], f"{said}: {found[place]:.2f}")
-                picture.text(left + wide * (at + 0.47), axes.y(found[place]) - 4, f"{found[place]:.2f}", anchor="middle", size=10)
+                picture.text(left + wide * (at + 0.47), axes.y(found[place]) - 4, f"{found[place]:.2f}", anchor="middle", size=min(10, int(wide / 2.4)))
     for at, (said, _) in enumerate(series):
         picture.box(axes.right + 10, axes.top + 20 * at, 12, 12, COLOURS[at % len(COLOURS)])
         picture.text(axes.right + 28, axes.top + 20 * at + 10, said)
