@@ -1,8 +1,10 @@
 #!/usr/bin/env python3
-"""Tries what bench/ does without a program: that each script refuses bad words by one clear line and leaves nothing behind, and what the timeline shows."""
+"""Tries what bench/ does without a program: that each script refuses bad words by one clear line and leaves nothing behind, what the timeline shows, and
+how units are told."""
 
 import json
 import os
+import re
 import subprocess
 import sys
 import tempfile
@@ -20,8 +22,18 @@ REFUSED = [
     ("harts/run", ["0"], 3),
     ("quick/run", ["many"], 3),
     ("eval/run", ["-1"], 3),
+    ("code/run", ["no such name"], 3),
+    ("code/run", ["gcd", "--to"], 3),
+    ("code/run", ["--to", "no such folder"], 4),
     ("emulate/run", ["1", "2"], 3),
     ("stress/run", ["1.5"], 3),
+    ("hostile/run", ["--only"], 3),
+    ("hostile/run", ["--only", "pictures"], 3),
+    ("hostile/run", ["--minutes", "0"], 3),
+    ("hostile/run", ["--seed", "-1"], 3),
+    ("hostile/run", ["--seed", "1", "--seed", "2"], 3),
+    ("hostile/run", ["texts"], 3),
+    ("hostile/run", ["--to", "no such folder"], 4),
     ("plots/run", ["a", "b"], 3),
     ("plots/run", ["--only", "pictures"], 3),
     ("plots/run", ["no such folder"], 4),
@@ -51,6 +63,28 @@ STRETCHES = [
     ("@step level 2", 0, 2.1, 0.9),
     ("@two words level 1", 1, 1.5, 1.1),
 ]
+# A function in the form that clang writes. Its blocks cost 2 for the entry, 3 for the address, 5 for the built-in and 3 for the switch; 3 for the call and
+# 1 for the branch; and 1 for the phi and 1 for the return. The built-in moves 12 bytes.
+TOLD = """define i64 @f(i64 %n, ptr %p) {
+entry:
+  call void @llvm.lifetime.start.p0(i64 8, ptr %p)
+  %q = getelementptr inbounds [4 x i32], ptr %p, i64 0, i64 %n, !dbg !1
+  call void @llvm.memcpy.p0.p0.i64(ptr align 4 dereferenceable(8) %p, ptr align 4 %q, i64 12, i1 false), !tbaa !2
+  switch i64 %n, label %two [
+    i64 1, label %one
+    i64 2, label %two
+  ]
+
+one:                                              ; preds = %entry
+  %c = tail call i64 @f(i64 noundef 3, ptr null) #1
+  br label %two
+
+two:                                              ; preds = %entry, %entry, %one
+  %r = phi i64 [ 0, %entry ], [ 0, %entry ], [ %c, %one ]
+  ret i64 %r
+}
+"""
+UNITS = ["13", "12", "4", "2"]
 
 
 def ran(script, words, room):
@@ -94,11 +128,22 @@ def timeline(wrong):
                 wrong.append(f"bench/timeline/run: its picture has no {part!r}")
 
 
+def units(wrong):
+    sys.path.insert(0, f"{TOP}/bench/code")
+    from units import telling
+
+    found = re.findall(r"call void @units\.of\.a\.block\(i64 (\w+)\)", telling(TOLD))
+    if found != UNITS:
+        wrong.append(f"bench/code/units.py tells {found}, and not {UNITS}")
+
+
 def main():
+    sys.dont_write_bytecode = True
     wrong = []
     refusals(wrong)
     timeline(wrong)
-    print("\n".join(wrong) if wrong else f"test_bench: {len(REFUSED)} refusals and a timeline as they should be")
+    units(wrong)
+    print("\n".join(wrong) if wrong else f"test_bench: {len(REFUSED)} refusals, a timeline and units as they should be")
     return 1 if wrong else 0
 
 

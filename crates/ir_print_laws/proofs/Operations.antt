@@ -84,7 +84,7 @@ behind_other front name e = by (nat_lt (length name) (length front))
     by true = refl
     by false = rw e refl
 
-has_front : List ℕ → Bool
+abbrev has_front : List ℕ → Bool
 has_front [] = false
 has_front (d ∷ ds) = not (nat_eq d 48)
 
