@@ -73,15 +73,26 @@ class Axes:
         return self.bottom - (self.bottom - self.top) * value / self.most_y
 
 
+def apart(heights, least):
+    """Returns heights moved down where two would be less than so far apart."""
+    moved, last = list(heights), None
+    for at in sorted(range(len(heights)), key=lambda it: heights[it]):
+        if last is not None:
+            moved[at] = max(moved[at], last + least)
+        last = moved[at]
+    return moved
+
+
 def lines(path, title, name_x, name_y, series, marks_x=None):
     """Draws lines: each of the series is a name and its points."""
     picture = Picture(720, 400, title)
     points = [it for _, found in series for it in found]
     axes = Axes(picture, max(x for x, _ in points), max(y for _, y in points), name_x, name_y, marks_x)
+    beside = apart([axes.y(found[-1][1]) + 4 for _, found in series], 15)
     for at, (name, found) in enumerate(series):
         colour = COLOURS[at % len(COLOURS)]
         picture.path([(axes.x(x), axes.y(y)) for x, y in found], colour)
-        picture.text(axes.right + 8, axes.y(found[-1][1]) + 4, name, colour=colour)
+        picture.text(axes.right + 8, beside[at], name, colour=colour)
     picture.write(path)
 
 
