@@ -63,7 +63,7 @@ module _ (program : Program) (checked : IsChecked program) (symbol : ℕ) (funct
   formed = (well_formed program checked).2 symbol function there
 
   -- the instructions behind the phis of a block
-  behind_shape : (k : ℕ) (x : Block) → slice_get function.blocks k ≡ Some x → (ends_once (drop (length (heads gl function k)) (insts_at function k)) ≡ true) × (has_no_phi (drop (length (heads gl function k)) (insts_at function k)) ≡ true)
+  pub behind_shape : (k : ℕ) (x : Block) → slice_get function.blocks k ≡ Some x → (ends_once (drop (length (heads gl function k)) (insts_at function k)) ≡ true) × (has_no_phi (drop (length (heads gl function k)) (insts_at function k)) ≡ true)
   behind_shape k x e =
       let outer = and_parts (ends_once x.insts && fits_number k x.insts) (all_cases_distinct x.insts) (formed.shaped k x e) in
       let parts = and_parts (ends_once x.insts) (fits_number k x.insts) outer.0 in

@@ -29,3 +29,14 @@ pub mod Data
 pub mod Named
 pub mod Taken
 pub mod Phis
+pub mod Joined
+pub mod Scopes
+pub mod Served
+pub mod Edged
+pub mod Gives
+pub mod Running
+pub mod Walking
+pub mod Giving
+pub mod Assigning
+pub mod Defining
+pub mod Usings

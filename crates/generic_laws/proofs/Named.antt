@@ -43,7 +43,7 @@ module _ (globals : List Global) (function : Function) where
   AllNamed es own [] = Unit {0}
   AllNamed es own (code ∷ more) = Named es own code × AllNamed es (own + 1) more
 
-  all_both : (es : List Edge) (own : ℕ) (xs ys : List (List GInst)) → AllNamed es own xs → AllNamed es (own + length xs) ys → AllNamed es own (xs ++ ys)
+  pub all_both : (es : List Edge) (own : ℕ) (xs ys : List (List GInst)) → AllNamed es own xs → AllNamed es (own + length xs) ys → AllNamed es own (xs ++ ys)
   all_both es own [] ys h h' = subst (λ (n : ℕ). AllNamed es n ys) (let z : own + 0 ≡ own = omega arith in z) h'
   all_both es own (x ∷ xs) ys h h' = (h.0, all_both es (own + 1) xs ys h.1 (subst (λ (n : ℕ). AllNamed es n ys) (let z : own + length (x ∷ xs) ≡ own + 1 + length xs = omega arith in z) h'))
 
@@ -51,10 +51,10 @@ module _ (globals : List Global) (function : Function) where
   Among : List Edge → List Edge → Type 0
   Among es es' = (at to : ℕ) → IsIn es at to → IsIn es' at to
 
-  named_more : (es es' : List Edge) (at : ℕ) → ((at to : ℕ) → IsIn es at to → IsIn es' at to) → (code : List GInst) → Named es at code → Named es' at code
+  pub named_more : (es es' : List Edge) (at : ℕ) → ((at to : ℕ) → IsIn es at to → IsIn es' at to) → (code : List GInst) → Named es at code → Named es' at code
   named_more es es' at h code n = every_map (Arrives globals function (Reach es at)) (Arrives globals function (Reach es' at)) code (λ i a. every_map (Reach es at) (Reach es' at) (targets i) (λ to r p. h at to (r p)) a) n
 
-  all_more : (es es' : List Edge) (own : ℕ) (blocks : List (List GInst)) → ((at to : ℕ) → IsIn es at to → IsIn es' at to) → AllNamed es own blocks → AllNamed es' own blocks
+  pub all_more : (es es' : List Edge) (own : ℕ) (blocks : List (List GInst)) → ((at to : ℕ) → IsIn es at to → IsIn es' at to) → AllNamed es own blocks → AllNamed es' own blocks
   all_more es es' own [] h n = tt
   all_more es es' own (x ∷ xs) h n = (named_more es es' own h x n.0, all_more es es' (own + 1) xs h n.1)
 

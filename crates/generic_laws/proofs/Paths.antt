@@ -176,7 +176,7 @@ module _ (program : Program) (checked : IsChecked program) (symbol : ℕ) (funct
 -- ---- edges
 
 -- the first terminator is the last instruction
-ends_at : (insts : List Inst) → ends_once insts ≡ true → (k : ℕ) (inst : Inst) → slice_get insts k ≡ Some inst → is_terminator inst.op ≡ true → length insts ≡ k + 1
+pub ends_at : (insts : List Inst) → ends_once insts ≡ true → (k : ℕ) (inst : Inst) → slice_get insts k ≡ Some inst → is_terminator inst.op ≡ true → length insts ≡ k + 1
 ends_at [] h k inst e t = absurd (let bad : ⊥ = cc in bad)
 ends_at (x ∷ xs) h k inst e t = by_test (is_terminator x.op) refl k e (λ g j f. ends_at xs g j inst f t)
   where

@@ -26,7 +26,7 @@ use Rattle.generic_laws.proofs.Once.{append_long, times_both, below, below_one, 
 results_cons : (inst : Inst) (insts : List Inst) → results (inst ∷ insts) ≡ cond (has_result inst) 1 0 + results insts
 results_cons inst insts = sum_by-cons (λ (z : Inst). cond (has_result z) 1 0) inst insts
 
-results_split : (n : ℕ) (insts : List Inst) → results (take n insts) + results (drop n insts) ≡ results insts
+pub results_split : (n : ℕ) (insts : List Inst) → results (take n insts) + results (drop n insts) ≡ results insts
 results_split zero [] = refl
 results_split zero (x ∷ xs) = let none : results (take 0 (x ∷ xs)) ≡ 0 = refl in omega (arith, none)
 results_split (suc n) [] = refl

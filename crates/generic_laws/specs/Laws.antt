@@ -7,7 +7,7 @@ use Rattle.ir_verify.specs.Verdict.{IsChecked}
 use Rattle.gmir.specs.declared.code.GType.TheVariants.{S}
 use Rattle.gmir.specs.declared.code.GInst.{GInst}
 use Rattle.gmir.specs.declared.code.GFunction.{GFunction}
-use Rattle.gmir.specs.Formed.{HasForm, AllExist, times, all_written, is_end, is_param, takes_data, targets}
+use Rattle.gmir.specs.Formed.{HasForm, AllExist, times, all_written, is_end, is_param, takes_data, targets, edges}
 use Rattle.gmir.specs.Play.{insts_at, is_phi}
 use Rattle.gmir.specs.Refines.{RefinesFunction}
 use Rattle.legal_code.specs.Legal.{HasWideAddresses}
@@ -79,3 +79,12 @@ TakesDataFirst f = (block k : ℕ) (i : GInst) → slice_get (insts_at f block) 
 abbrev pub TranslatedTakesDataFirst : Type 0
 TranslatedTakesDataFirst = (program : Program) (symbol : ℕ) (function : Function) → IsChecked program → function_at program symbol ≡ Some function
     → TakesDataFirst (translated program symbol function)
+
+-- a phi names once each block that jumps to its block, and no other
+abbrev pub PhisNameJumps : GFunction → Type 0
+PhisNameJumps f = (block : ℕ) (before : List GInst) (i : GInst) (behind : List GInst) → block < length f.blocks → insts_at f block ≡ before ++ i ∷ behind → is_phi i.op ≡ true
+    → ((from : ℕ) → 1 ≤ times block (edges (insts_at f from)) → times from i.to ≡ 1) × ((from : ℕ) → 1 ≤ times from i.to → 1 ≤ times block (edges (insts_at f from)))
+
+abbrev pub TranslatedNamesJumps : Type 0
+TranslatedNamesJumps = (program : Program) (symbol : ℕ) (function : Function) → IsChecked program → function_at program symbol ≡ Some function
+    → PhisNameJumps (translated program symbol function)

@@ -1,5 +1,5 @@
 // What holds of the generic code of all functions of checked modules: each function's contract is a law, and its body does nothing.
-ghost use Rattle.generic_laws.specs.Laws.{TranslatedRefines, TranslatedHasWideAddresses, TranslatedHasForms, TranslatedWritesOnce, TranslatedEndsBlocks, TranslatedHasWidths, TranslatedHeadsFirst, TranslatedTakesDataFirst};
+ghost use Rattle.generic_laws.specs.Laws.{TranslatedRefines, TranslatedHasWideAddresses, TranslatedHasForms, TranslatedWritesOnce, TranslatedEndsBlocks, TranslatedHasWidths, TranslatedHeadsFirst, TranslatedTakesDataFirst, TranslatedNamesJumps};
 
 /// The generic code of a function of a checked module refines it.
 pub fn translated_refines()
@@ -39,4 +39,9 @@ pub fn translated_heads_first()
 /// What takes data in the generic code of a function of a checked module stands in the first block.
 pub fn translated_takes_data_first()
     ensures { TranslatedTakesDataFirst }
+{}
+
+/// A phi in the generic code of a function of a checked module names once each block that jumps to its block, and no other.
+pub fn translated_names_jumps()
+    ensures { TranslatedNamesJumps }
 {}
